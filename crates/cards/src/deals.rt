@@ -1,0 +1,30 @@
+// Deals: 52 bytes, of which byte c names the chair that gets the card c.
+ghost use mathlib.Core.Path.{_≡_};
+ghost use Prim.Native.Nat.{ℕ};
+ghost use Rattle.cards.specs.Chairs.{code};
+ghost use Rattle.cards.specs.Deals.{count, thirteenEach};
+use crate::chairs::Chair;
+
+// How many cards a chair gets.
+pub fn count(deal: &[u8; 52], chair: Chair) -> usize
+    ensures count { λ r. ⌜ r ≡ count (code chair) (now (deal .entry)) ⌝ }
+{
+    let to = chair.code();
+    let mut cards = 0;
+    for receiver in deal {
+        if *receiver == to {
+            cards += 1;
+        }
+    }
+    cards
+}
+
+// Does each chair get 13 cards?
+pub fn is_thirteen_each(deal: &[u8; 52]) -> bool
+    ensures each { λ r. ⌜ r ≡ thirteenEach (now (deal .entry)) ⌝ }
+{
+    count(deal, Chair::North) == 13
+        && count(deal, Chair::East) == 13
+        && count(deal, Chair::South) == 13
+        && count(deal, Chair::West) == 13
+}

@@ -1,0 +1,4 @@
+pub mod Cursors
+pub mod Deals
+pub mod Letters
+pub mod Numbers
