@@ -5,11 +5,9 @@ ghost use Rattle.cards.specs.Chairs.{code};
 ghost use Rattle.cards.specs.Deals.{count, thirteenEach};
 use crate::chairs::Chair;
 
-// How many cards a chair gets.
-pub fn count(deal: &[u8; 52], chair: Chair) -> usize
-    ensures count { λ r. ⌜ r ≡ count (code chair) (now (deal .entry)) ⌝ }
+fn count_to(deal: &[u8; 52], to: u8) -> usize
+    ensures count { λ r. ⌜ r ≡ count to (now (deal .entry)) ⌝ }
 {
-    let to = chair.code();
     let mut cards = 0;
     for receiver in deal {
         if *receiver == to {
@@ -17,6 +15,13 @@ pub fn count(deal: &[u8; 52], chair: Chair) -> usize
         }
     }
     cards
+}
+
+// How many cards a chair gets.
+pub fn count(deal: &[u8; 52], chair: Chair) -> usize
+    ensures count { λ r. ⌜ r ≡ count (code chair) (now (deal .entry)) ⌝ }
+{
+    count_to(deal, chair.code())
 }
 
 // Does each chair get 13 cards?

@@ -1,6 +1,7 @@
 -- Walking over a file line by line.
---     seen l, told r             what a line of the code stands for: a line, and where the next one starts
---     lineAt i file              the line that starts at the offset i, and where the next one does
+--     seen l, step l, told r     what a line of the code stands for: a line, and where the next one starts
+--     lineFrom i file            the line that starts at the offset i, and where the next one does
+--     lineAt i file              the same, if i is an offset in the file
 --     Heads r i file             r is the first of the lines from i on, and the others are those from its `next` on
 use mathlib.Core.Bool.{cond}
 use mathlib.Core.List.{List, [], _∷_}
@@ -22,13 +23,19 @@ pub record Step : Type 0 where
   pub line : Line
   pub next : ℕ
 
+abbrev pub step : code.Line → Step
+step l = record { line = seen l; next = l .next }
+
 abbrev pub told : Option code.Line → Option Step
-told = mapped (λ l. record { line = seen l; next = l .next })
+told = mapped step
+
+abbrev pub lineFrom : ℕ → List ℕ → Step
+lineFrom i file =
+    let rest = drop i file in
+    record { line = record { start = i; text = take (lineLength rest) rest }; next = i + lineSize rest }
 
 abbrev pub lineAt : ℕ → List ℕ → Option Step
-lineAt i file =
-    let rest = drop i file in
-    cond (ltb i (length file)) (Some (record { line = record { start = i; text = take (lineLength rest) rest }; next = i + lineSize rest })) None
+lineAt i file = cond (ltb i (length file)) (Some (lineFrom i file)) None
 
 abbrev pub Heads : Option code.Line → ℕ → List ℕ → Type 0
 Heads None i file = lines i (drop i file) ≡ []

@@ -2,9 +2,10 @@
 ghost use mathlib.Core.Path.{_≡_};
 ghost use Prim.Native.Nat.{ℕ, _+_, _-_, _<_, _≤_};
 ghost use lib.ListN.{length, drop};
+ghost use Rattle.std.specs.declared.option.Option.the-variants.{Some};
 ghost use Rattle.lines.specs.Lines.{lineLength, lineSize, printable};
 ghost use Rattle.lines.specs.Checks.{lineChecked, fileChecked};
-ghost use Rattle.lines.specs.Walks.{seen, told, lineAt, Heads};
+ghost use Rattle.lines.specs.Walks.{seen, step, told, lineFrom, lineAt, Heads};
 use faults::Fault;
 
 const LONGEST_FILE: usize = 65_535;
@@ -52,6 +53,20 @@ fn span_at(file: &[u8], at: usize) -> Span
     Span { end: i, next: i }
 }
 
+fn line_at<'a>(file: &'a [u8], at: usize) -> Line<'a>
+    requires { ⌜ at < length (now file) ⌝ }
+    ensures line { λ r. ⌜ step r ≡ lineFrom at (now (file .entry)) ⌝ }
+    ensures heads { λ r. ⌜ Heads (Some r) at (now (file .entry)) ⌝ }
+{
+    let span = span_at(file, at);
+    let end = span.end;
+    Line {
+        start: at,
+        text: &file[at..end],
+        next: span.next,
+    }
+}
+
 // The line that starts at an offset; none starts at the file's end or past it.
 pub fn next_line<'a>(file: &'a [u8], at: usize) -> Option<Line<'a>>
     ensures line { λ r. ⌜ told r ≡ lineAt at (now (file .entry)) ⌝ }
@@ -60,13 +75,7 @@ pub fn next_line<'a>(file: &'a [u8], at: usize) -> Option<Line<'a>>
     if at >= file.len() {
         return None;
     }
-    let span = span_at(file, at);
-    let end = span.end;
-    Some(Line {
-        start: at,
-        text: &file[at..end],
-        next: span.next,
-    })
+    Some(line_at(file, at))
 }
 
 fn is_printable(text: &[u8]) -> bool

@@ -16,13 +16,10 @@ use Rattle.cards.specs.declared.boards.Vulnerability.the-variants.{Neither, Nor
 use Rattle.cards.specs.declared.chairs.Chair.{Chair}
 use Rattle.cards.specs.declared.suits.Suit.{Suit}
 use Rattle.cards.specs.declared.suits.Suit.the-variants.{Clubs, Diamonds, Hearts, Spades}
-use Rattle.cards.specs.Boards.{dealer, vulnerability}
 use Rattle.cards.specs.Chairs.{code, next}
 use Rattle.cards.specs.Suits.{code as suitCode}
-use Rattle.faults.specs.declared.Fault.{Fault}
-use Rattle.faults.specs.Faults.{layer, number, offset}
 use Rattle.values.specs.Letters.{chairLetter, vulnerabilityWord}
-use Rattle.writer.specs.Texts.{dealText, faultLine, gameLines, handText, ranksBelow, suitText, tagLine, text}
+use Rattle.writer.specs.Texts.{dealText, faultText, handText, ranksBelow, suitText, tagLine, tagLines, text}
 
 decimal-short : (n : ℕ) → n < 2 ^ 64 → length (decimal n) ≤ 20
 decimal-short n l = length-decimal-le 20 n (omega arith) (omega arith) l
@@ -56,9 +53,9 @@ tag-length : (name value : List ℕ) → length (tagLine name value) ≡ length 
 unfolding tagLine
 tag-length name value = simp length-append (omega arith)
 
-pub game-short : (n : ℕ) (d : List ℕ) → n < 2 ^ 64 → length (text (gameLines n d)) ≤ 400
-game-short n d l = simp (length-append, tag-length) (omega (arith, decimal-short n l, word-short (vulnerability n), deal-short d (dealer n)))
+pub tags-short : (n : ℕ) (x : Chair) (v : Vulnerability) (d : List ℕ) → n < 2 ^ 64 → length (text (tagLines n x v d)) ≤ 400
+tags-short n x v d l = simp (length-append, tag-length) (omega (arith, decimal-short n l, word-short v, deal-short d x))
 
-pub fault-short : (f : Fault) → layer f < 2 ^ 64 → number f < 2 ^ 64 → offset f < 2 ^ 64 → length (text (faultLine f ∷ [])) ≤ 100
-unfolding faultLine
-fault-short f a b c = simp length-append (omega (arith, decimal-short (layer f) a, decimal-short (number f) b, decimal-short (offset f) c))
+pub fault-short : (l n o : ℕ) → l < 2 ^ 64 → n < 2 ^ 64 → o < 2 ^ 64 → length (text (faultText l n o ∷ [])) ≤ 100
+unfolding faultText
+fault-short l n o a b c = simp length-append (omega (arith, decimal-short l a, decimal-short n b, decimal-short o c))

@@ -4,8 +4,10 @@
 --     suitText d x s             the letters of the cards of the suit s that the deal d gives the chair x, the highest first
 --     handText d x               its spades, hearts, diamonds and clubs, parted by dots
 --     dealText d x               the four hands from the chair x on
---     gameLines n d              the four tag lines of the board n with the deal d
---     faultLine f                % fault, with the layer, the number and the offset
+--     tagLines n x v d           the four tag lines of a board: its number, its dealer x, its vulnerability v and its deal
+--     gameLines n d              the same with the dealer and the vulnerability of the number
+--     faultText l n o            % fault, with a layer, a number and an offset
+--     faultLine f                the same of a fault
 use mathlib.Core.Bool.{cond}
 use mathlib.Core.List.{List, [], _∷_, _++_}
 use Prim.Native.Nat.{ℕ, zero, suc, _+_, _*_}
@@ -13,6 +15,7 @@ use lib.Chars.{codes}
 use lib.Dec.{eqb}
 use lib.ListN.{getD}
 use Rattle.std.specs.Written.{decimal}
+use Rattle.cards.specs.declared.boards.Vulnerability.{Vulnerability}
 use Rattle.cards.specs.declared.chairs.Chair.{Chair}
 use Rattle.cards.specs.declared.suits.Suit.{Suit}
 use Rattle.cards.specs.declared.suits.Suit.the-variants.{Clubs, Diamonds, Hearts, Spades}
@@ -45,12 +48,18 @@ unfoldable pub dealText : List ℕ → Chair → List ℕ
 dealText d x =
     chairLetter x ∷ (codes ":" ++ (handText d x ++ (codes " " ++ (handText d (next x) ++ (codes " " ++ (handText d (next (next x)) ++ (codes " " ++ handText d (next (next (next x))))))))))
 
-abbrev pub gameLines : ℕ → List ℕ → List (List ℕ)
-gameLines n d =
+abbrev pub tagLines : ℕ → Chair → Vulnerability → List ℕ → List (List ℕ)
+tagLines n x v d =
     tagLine (codes "Board") (decimal n)
-    ∷ tagLine (codes "Dealer") (chairLetter (dealer n) ∷ [])
-    ∷ tagLine (codes "Vulnerable") (vulnerabilityWord (vulnerability n))
-    ∷ tagLine (codes "Deal") (dealText d (dealer n)) ∷ []
+    ∷ tagLine (codes "Dealer") (chairLetter x ∷ [])
+    ∷ tagLine (codes "Vulnerable") (vulnerabilityWord v)
+    ∷ tagLine (codes "Deal") (dealText d x) ∷ []
 
-unfoldable pub faultLine : Fault → List ℕ
-faultLine f = codes "% fault " ++ (decimal (layer f) ++ (codes " " ++ (decimal (number f) ++ (codes " " ++ decimal (offset f)))))
+abbrev pub gameLines : ℕ → List ℕ → List (List ℕ)
+gameLines n d = tagLines n (dealer n) (vulnerability n) d
+
+unfoldable pub faultText : ℕ → ℕ → ℕ → List ℕ
+faultText l n o = codes "% fault " ++ (decimal l ++ (codes " " ++ (decimal n ++ (codes " " ++ decimal o))))
+
+abbrev pub faultLine : Fault → List ℕ
+faultLine f = faultText (layer f) (number f) (offset f)

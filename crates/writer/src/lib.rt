@@ -6,7 +6,7 @@ ghost use lib.ListN.{length};
 ghost use lib.Chars.{codes};
 ghost use Rattle.text.specs.Pages.{Wrote};
 ghost use Rattle.values.specs.Letters.{chairLetter, rankLetter, vulnerabilityWord};
-ghost use Rattle.writer.specs.Texts.{text, tagLine, suitText, handText, dealText, gameLines, faultLine};
+ghost use Rattle.writer.specs.Texts.{text, tagLine, suitText, handText, dealText, tagLines, gameLines, faultText, faultLine};
 use cards::boards::Vulnerability;
 use cards::boards::dealer_of;
 use cards::boards::vulnerability_of;
@@ -100,24 +100,45 @@ fn put_tag(page: &mut Page, name: &[u8], value: &[u8])
     page.put_all(b"\"]\n");
 }
 
+fn put_tags(page: &mut Page, number: u8, dealer: Chair, risk: Vulnerability, deal: &[u8; 52])
+    ensures wrote { λ _. ⌜ Wrote (text (tagLines number dealer risk (now (deal .entry)))) (now (page .entry)) (now (page .exit)) ⌝ }
+    ensures short { λ _. ⌜ length (text (tagLines number dealer risk (now (deal .entry)))) ≤ 400 ⌝ }
+{
+    page.put_all(b"[Board \"");
+    page.put_decimal(number as u64);
+    page.put_all(b"\"]\n");
+    put_tag(page, b"Dealer", &[chair_letter(dealer)]);
+    put_tag(page, b"Vulnerable", vulnerability_word(risk));
+    page.put_all(b"[Deal \"");
+    put_hands(page, deal, dealer);
+    page.put_all(b"\"]\n");
+}
+
 // The tag lines Board, Dealer, Vulnerable and Deal of a game; the deal starts with the dealer.
 pub fn put_game(page: &mut Page, number: u8, deal: &[u8; 52])
     ensures wrote { λ _. ⌜ Wrote (text (gameLines number (now (deal .entry)))) (now (page .entry)) (now (page .exit)) ⌝ }
     ensures short { λ _. ⌜ length (text (gameLines number (now (deal .entry)))) ≤ 400 ⌝ }
 {
-    let dealer = dealer_of(number);
-    page.put_all(b"[Board \"");
-    page.put_decimal(number as u64);
-    page.put_all(b"\"]\n");
-    put_tag(page, b"Dealer", &[chair_letter(dealer)]);
-    put_tag(
+    put_tags(
         page,
-        b"Vulnerable",
-        vulnerability_word(vulnerability_of(number)),
+        number,
+        dealer_of(number),
+        vulnerability_of(number),
+        deal,
     );
-    page.put_all(b"[Deal \"");
-    put_hands(page, deal, dealer);
-    page.put_all(b"\"]\n");
+}
+
+fn put_fault_line(page: &mut Page, layer: u8, number: u8, offset: usize)
+    ensures wrote { λ _. ⌜ Wrote (text (faultText layer number offset ∷ [])) (now (page .entry)) (now (page .exit)) ⌝ }
+    ensures short { λ _. ⌜ length (text (faultText layer number offset ∷ [])) ≤ 100 ⌝ }
+{
+    page.put_all(b"% fault ");
+    page.put_decimal(layer as u64);
+    page.put(b' ');
+    page.put_decimal(number as u64);
+    page.put(b' ');
+    page.put_decimal(offset as u64);
+    page.put(b'\n');
 }
 
 // The line that names a fault by its layer, its number and its offset.
@@ -125,11 +146,5 @@ pub fn put_fault(page: &mut Page, fault: Fault)
     ensures wrote { λ _. ⌜ Wrote (text (faultLine fault ∷ [])) (now (page .entry)) (now (page .exit)) ⌝ }
     ensures short { λ _. ⌜ length (text (faultLine fault ∷ [])) ≤ 100 ⌝ }
 {
-    page.put_all(b"% fault ");
-    page.put_decimal(fault.layer() as u64);
-    page.put(b' ');
-    page.put_decimal(fault.number() as u64);
-    page.put(b' ');
-    page.put_decimal(fault.offset() as u64);
-    page.put(b'\n');
+    put_fault_line(page, fault.layer(), fault.number(), fault.offset());
 }

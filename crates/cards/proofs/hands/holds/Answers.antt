@@ -6,8 +6,9 @@ use Rattle.std.proofs.shelf.Tests.{le-ltb}
 use Rattle.cards.proofs.Bits.{holds-bit, holds-past}
 use Rattle.cards.proofs.hands.holds.Needs as need
 
-pub returns-then-card-lt64 : need.returns-then-card-lt64
-returns-then-card-lt64 c = record { holds = ap (λ x. eqb x 1) (and-mask _ 1) ∙ sym (holds-bit (c .args .hand) (c .args .card)) }
+pub returns-then-card-lt-BITS : need.returns-then-card-lt-BITS
+returns-then-card-lt-BITS c = record { holds = ap (λ x. eqb x 1) (and-mask _ 1) ∙ sym (holds-bit (c .args .hand) (c .args .card)) }
 
-pub returns-else-card-lt64 : need.returns-else-card-lt64
-returns-else-card-lt64 c = record { holds = le-ltb (c .args .card) 64 (c .if-card-lt64 .left) ∙ sym (holds-past (c .args .hand) 64 (c .args .card) (omega arith) (c .if-card-lt64 .left)) }
+pub returns-else-card-lt-BITS : need.returns-else-card-lt-BITS
+returns-else-card-lt-BITS c =
+    record { holds = le-ltb (c .args .card) 64 (omega arith) ∙ sym (holds-past (c .args .hand) 64 (c .args .card) (omega arith) (omega arith)) }
