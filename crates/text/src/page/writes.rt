@@ -1,7 +1,7 @@
 // What can be put on a page.
 ghost use mathlib.Core.List.{List, [], _∷_};
 ghost use mathlib.Core.Path.{_≡_};
-ghost use Prim.Native.Nat.{ℕ};
+ghost use Prim.Native.Nat.{ℕ, _<_};
 ghost use Rattle.std.specs.Written.{decimal};
 ghost use Rattle.text.specs.Pages.{written, Wrote};
 use crate::page::Page;
@@ -26,14 +26,21 @@ impl Page {
         &self.bytes[0..used]
     }
 
+    fn store(&mut self, byte: u8)
+        requires { ⌜ now self .used < 2048 ⌝ }
+        ensures wrote { λ _. ⌜ Wrote (byte ∷ []) (now (self .entry)) (now (self .exit)) ⌝ }
+    {
+        let at = self.used;
+        self.bytes[at] = byte;
+        self.used = at + 1;
+    }
+
     // Puts a byte behind the text.
     pub fn put(&mut self, byte: u8)
         ensures wrote { λ _. ⌜ Wrote (byte ∷ []) (now (self .entry)) (now (self .exit)) ⌝ }
     {
-        let at = self.used;
-        if at < ROOM {
-            self.bytes[at] = byte;
-            self.used = at + 1;
+        if self.used < ROOM {
+            self.store(byte);
         }
     }
 

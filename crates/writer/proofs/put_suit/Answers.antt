@@ -23,5 +23,6 @@ loop-rank-again-then-deal-lowest c =
 pub returns : need.returns
 returns c =
     let l = c .loop-rank in
-    let e = suit-done (c .args .deal .now) (c .args .chair) (c .args .suit) (c .code-to .result) (13 * c .code-lowest .result) (l .rank) (l .inv .0) (c .code-to .ensures .code) (ap (λ k. 13 * k) (c .code-lowest .ensures .code)) (omega arith) (l .inv .2) in
+    let low = ap (λ k. 13 * k) (c .code-lowest .ensures .code) in
+    let e = suit-done (c .args .deal .now) (c .args .chair) (c .args .suit) (c .code-to .result) (13 * c .code-lowest .result) (l .rank) (l .inv .0) (c .code-to .ensures .code) low (omega arith) (l .inv .2) in
     record { wrote = told e (l .inv .1) }
