@@ -1,0 +1,3 @@
+pub mod Doublings
+pub mod Laws
+pub mod Scores

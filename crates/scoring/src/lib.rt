@@ -1,0 +1,3 @@
+// The score of a contract.
+pub mod contracts;
+pub mod scores;

@@ -1,0 +1,4 @@
+pub mod Comparisons
+pub mod Results
+pub mod Rows
+pub mod Sheets

@@ -1,0 +1,3 @@
+// Scores and sheets with numbers worked by hand.
+#[cfg(test)]
+mod tests;
