@@ -9,7 +9,7 @@ use lib.ListN.{length, take, drop, getD}
 use Rattle.std.proofs.shelf.Lists.{at-drop-more, at-drop-all, getD-take, length-take-le}
 use Rattle.sheets.specs.declared.rows.Row.{Row}
 use Rattle.sheets.specs.Rows.{listed}
-use Rattle.sheets.specs.Comparisons.{reached, limits, impCount}
+use Rattle.sheets.specs.Comparisons.{reached, limits, impCount, Table}
 
 pub reached-more : (size : ℕ) (xs : List ℕ) (i : ℕ) → i < length xs → reached size (drop i xs) ≡ cond (leb (getD xs i 0) size) 1 0 + reached size (drop (i + 1) xs)
 reached-more size xs i h = at-drop-more (reached size) xs i 0 h
@@ -20,6 +20,10 @@ reached-all size xs i h = at-drop-all (reached size) xs i h
 pub imp-count : (size : ℕ) → impCount size ≡ reached size limits
 unfolding impCount
 imp-count size = refl
+
+pub table : Table
+unfolding impCount
+table = (refl, refl)
 
 -- the rows of a sheet: the first n of its memory
 module _ (pair n : ℕ) (mem : List Row) (i : ℕ) (within : n ≤ length mem) where

@@ -10,7 +10,8 @@ use lib.ListN.{length, take, drop, getD}
 use Rattle.std.proofs.shelf.Lists.{at-drop-more, at-drop-all, take-take, length-take, getD-take, length-take-le}
 use Rattle.std.proofs.shelf.Signed.{ints}
 use Rattle.sheets.specs.declared.rows.Row.{Row}
-use Rattle.sheets.specs.Results.{blank, scoreAt, against, resultOf, sumTo, Adds-up}
+use Rattle.sheets.specs.Rows.{blank}
+use Rattle.sheets.specs.Results.{scoreAt, against, resultOf, sumTo, Adds-up}
 
 times-more : (t : ℤ) (n : ℕ) → t *ℤ pos (suc n) ≡ t *ℤ pos n +ℤ t
 times-more t n = *ℤ-comm t (pos (suc n)) ∙ sucℤ-*ℤ (pos n) t ∙ ap (λ x. x +ℤ t) (*ℤ-comm (pos n) t)

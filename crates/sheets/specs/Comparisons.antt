@@ -1,10 +1,12 @@
 -- Matchpoints and IMPs: what the score a gets against the score b.
 --     matchpoints a b            2, 1 or 0 for a higher, an equal or a lower score
 --     impCount n                 how many of the limits lie at or below n
+--     Table                      at the limits begin 1 to 24 IMPs, and 10 points below each there is one less
 --     imps a b                   that count of the size of the difference, with its sign
 use mathlib.Core.Bool.{cond}
-use mathlib.Core.List.{List, [], _∷_}
-use Prim.Native.Nat.{ℕ, _+_}
+use mathlib.Core.List.{List, [], _∷_, map}
+use mathlib.Core.Path.{_≡_}
+use Prim.Native.Nat.{ℕ, zero, suc, _+_, _-_}
 use lib.Dec.{leb}
 use lib.IntN.{ℤ, pos, negℤ, natAbs, _-ℤ_}
 use lib.Signed.{ltZ}
@@ -27,3 +29,10 @@ abbrev pub imps : ℤ → ℤ → ℤ
 imps a b =
     let points = pos (impCount (natAbs (a -ℤ b))) in
     cond (ltZ b a) points (cond (ltZ a b) (negℤ points) (pos 0))
+
+abbrev pub upFrom : ℕ → ℕ → List ℕ
+upFrom i zero = []
+upFrom i (suc n) = i ∷ upFrom (suc i) n
+
+abbrev pub Table : Type 0
+Table = (map impCount limits ≡ upFrom 1 24) × (map (λ n. impCount (n - 10)) limits ≡ upFrom 0 24)

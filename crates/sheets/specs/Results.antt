@@ -17,9 +17,7 @@ use Rattle.std.specs.declared.result.Result.the-variants.{Ok, Err}
 use Rattle.sheets.specs.declared.rows.Refusal.{Refusal}
 use Rattle.sheets.specs.declared.rows.Refusal.the-variants.{NoRow}
 use Rattle.sheets.specs.declared.rows.Row.{Row}
-
-abbrev pub blank : Row
-blank = record { ns = 0; ew = 0; score = pos 0 }
+use Rattle.sheets.specs.Rows.{blank}
 
 abbrev pub scoreAt : List Row → ℕ → ℤ
 scoreAt rows i = getD rows i blank .score

@@ -2,7 +2,7 @@
 ghost use mathlib.Core.Path.{_≡_};
 ghost use Prim.Native.Nat.{ℕ, _≤_};
 ghost use lib.IntN.{ℤ, pos, _+ℤ_};
-ghost use Rattle.sheets.specs.Comparisons.{matchpoints, imps, impCount};
+ghost use Rattle.sheets.specs.Comparisons.{matchpoints, imps, impCount, Table};
 
 // A rule of comparison names its total: what two scores get, one against the other and the other
 // against the one, always adds up to it.
@@ -76,10 +76,11 @@ const LIMITS: [u32; 24] = [
     4000,
 ];
 
-// How many limits lie at or below the size of a difference.
-fn limits_reached(size: u64) -> u8
+// The IMPs for a difference of a size: how many limits lie at or below it.
+pub fn imps_for(size: u64) -> u8
     ensures count { λ r. ⌜ r ≡ impCount size ⌝ }
     ensures bound { λ r. ⌜ r ≤ 24 ⌝ }
+    ensures table { λ _. ⌜ Table ⌝ }
 {
     let mut reached = 0;
     for limit in LIMITS {
@@ -106,7 +107,7 @@ pub impl Comparison for Imps as ImpComparison {
 
     fn compare(score: i32, other: i32) -> i32 {
         let difference = score as i64 - other as i64;
-        let points = limits_reached(difference.unsigned_abs()) as i32;
+        let points = imps_for(difference.unsigned_abs()) as i32;
         if score > other {
             points
         } else if score < other {

@@ -7,7 +7,7 @@ ghost use denote.Ref.{name};
 ghost use lib.IntN.{ℤ};
 ghost use lib.ListN.{length, set};
 ghost use Rattle.std.specs.Results.{isOk};
-ghost use Rattle.sheets.specs.Rows.{listed, pairsFit, scoreFits, ruling};
+ghost use Rattle.sheets.specs.Rows.{listed, pairsFit, rowAt, scoreFits, ruling};
 ghost use Rattle.sheets.specs.Sheets.{held, memory};
 use super::Sheet;
 use crate::rows::Refusal;
@@ -76,5 +76,15 @@ impl<'a> Sheet<'a> {
         self.rows[used] = row;
         self.used = used + 1;
         Ok(())
+    }
+
+    // A row of the sheet, counted from 0.
+    pub fn row(&self, i: usize) -> Result<Row, Refusal>
+        ensures answer { λ r. ⌜ r ≡ rowAt (held (now (self .entry))) i ⌝ }
+    {
+        if i >= self.used {
+            return Err(Refusal::NoRow);
+        }
+        Ok(self.rows[i])
     }
 }

@@ -57,4 +57,13 @@ impl<'a> Sheet<'a> {
         }
         sum
     }
+
+    // What the results have to add up to: the rule's total for each two rows.
+    pub fn share<C: Comparison>(&self) -> i64
+        ensures share { λ r. ⌜ r ≡ shared (C·Comparison .total) (length (held (now (self .entry)))) ⌝ }
+    {
+        let rows = self.used;
+        let meetings = rows * rows.saturating_sub(1) / 2;
+        C::total_points() as i64 * meetings as i64
+    }
 }

@@ -1,8 +1,8 @@
 use native.Mathlib.Omega.{arith}
 use Rattle.std.proofs.shelf.Ways.{tells}
 use Rattle.sheets.specs.Comparisons.{limits}
-use Rattle.sheets.proofs.Steps.{reached-more, reached-all, imp-count}
-use Rattle.sheets.proofs.comparisons.limits_reached.Needs as need
+use Rattle.sheets.proofs.Steps.{reached-more, reached-all, imp-count, table}
+use Rattle.sheets.proofs.comparisons.imps_for.Needs as need
 
 pub loop-limit-holds : need.loop-limit-holds
 loop-limit-holds c = (omega arith, omega (arith, imp-count (c .args .size)))
@@ -14,4 +14,4 @@ loop-limit-again c =
 pub returns : need.returns
 returns c =
     let e = reached-all (c .args .size) limits (c .loop-limit .limit-index) (omega arith) in
-    record { count = omega arith; bound = omega arith }
+    record { count = omega arith; bound = omega arith; table = table }
