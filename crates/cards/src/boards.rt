@@ -1,6 +1,6 @@
 // What a board's number settles: who deals, and which sides are vulnerable.
 ghost use mathlib.Core.Path.{_≡_};
-ghost use Prim.Native.Nat.{ℕ, _+_, _-_, _/_, _%_};
+ghost use Prim.Native.Nat.{_+_, _-_, _/_, _%_};
 ghost use Rattle.cards.specs.Boards.{code, dealer, vulnerability, withCode};
 ghost use Rattle.cards.specs.Chairs.{code as chairCode};
 use crate::chairs::Chair;

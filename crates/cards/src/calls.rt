@@ -1,6 +1,5 @@
 // Calls, each a byte: Pass, Double, Redouble, and the 35 bids in rising order.
 ghost use mathlib.Core.Path.{_≡_};
-ghost use Prim.Native.Nat.{ℕ};
 ghost use Rattle.cards.specs.Calls.{bidOf, levelOf, denominationOf};
 use crate::suits::Denomination;
 

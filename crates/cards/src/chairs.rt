@@ -1,6 +1,6 @@
 // The four chairs of a table, clockwise.
 ghost use mathlib.Core.Path.{_≡_};
-ghost use Prim.Native.Nat.{ℕ, _+_, _%_, _<_};
+ghost use Prim.Native.Nat.{_+_, _%_, _<_};
 ghost use Rattle.cards.specs.Chairs.{code, next, partner, withCode};
 
 #[derive(Clone, Copy, Debug, PartialEq)]

@@ -1,6 +1,5 @@
 // Deals: 52 bytes, of which byte c names the chair that gets the card c.
 ghost use mathlib.Core.Path.{_≡_};
-ghost use Prim.Native.Nat.{ℕ};
 ghost use Rattle.cards.specs.Chairs.{code};
 ghost use Rattle.cards.specs.Deals.{count, thirteenEach};
 use crate::chairs::Chair;

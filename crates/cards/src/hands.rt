@@ -1,6 +1,5 @@
 // Hands. A hand is a number whose bit c is set when it holds the card c.
 ghost use mathlib.Core.Path.{_≡_};
-ghost use Prim.Native.Nat.{ℕ};
 ghost use Rattle.cards.specs.Chairs.{code};
 ghost use Rattle.cards.specs.Hands.{holds, dealt};
 use crate::chairs::Chair;

@@ -1,6 +1,5 @@
 // The 52 cards of the pack, each a byte: 13 times its suit and its rank, from 0 for the two to 12 for the ace.
 ghost use mathlib.Core.Path.{_≡_};
-ghost use Prim.Native.Nat.{ℕ};
 ghost use Rattle.cards.specs.Pack.{cardOf, suitOf, rankOf};
 use crate::suits::Suit;
 

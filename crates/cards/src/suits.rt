@@ -1,6 +1,6 @@
 // Suits, and the denominations of a bid.
 ghost use mathlib.Core.Path.{_≡_};
-ghost use Prim.Native.Nat.{ℕ, _<_};
+ghost use Prim.Native.Nat.{_<_};
 ghost use Rattle.cards.specs.Suits.{code, lower, rank as denominationCode, suitWithCode, denominationWithCode};
 
 #[derive(Clone, Copy, Debug, PartialEq)]

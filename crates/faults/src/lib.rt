@@ -1,6 +1,5 @@
 // What a deal file is refused for.
 ghost use mathlib.Core.Path.{_≡_};
-ghost use Prim.Native.Nat.{ℕ};
 ghost use Rattle.faults.specs.Faults.{layer, number, offset};
 use std::fmt;
 

@@ -1,6 +1,5 @@
 // Reading a deal file: the lines of one game, its tags and what they say.
 ghost use mathlib.Core.Path.{_≡_};
-ghost use Prim.Native.Nat.{ℕ};
 ghost use Rattle.lines.specs.Lines.{lines};
 ghost use Rattle.tags.specs.Views.{found};
 ghost use Rattle.reader.specs.Reading.{isDealer, isVulnerability, numberRead, tagsRead, valuesRead, fileRead};

@@ -1,7 +1,6 @@
 // What the program answers to a deal file.
 ghost use mathlib.Core.List.{[]};
 ghost use mathlib.Core.Path.{_≡_};
-ghost use Prim.Native.Nat.{ℕ};
 ghost use Rattle.text.specs.Pages.{written};
 ghost use Rattle.reply.specs.Replies.{replyTo};
 use reader::read;

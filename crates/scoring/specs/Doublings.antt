@@ -7,7 +7,6 @@ use Prim.Native.Nat.{ℕ}
 use lib.Dec.{eqb, leb}
 use Rattle.std.specs.declared.option.Option.{Option}
 use Rattle.std.specs.declared.option.Option.the-variants.{Some, None}
-use Rattle.std.specs.Options.{isSome}
 use Rattle.cards.specs.declared.suits.Denomination.{Denomination}
 use Rattle.scoring.specs.declared.contracts.Contract.{Contract}
 use Rattle.scoring.specs.declared.contracts.Doubling.{Doubling}

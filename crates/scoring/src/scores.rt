@@ -1,7 +1,7 @@
 // The score of a contract, from bid points, premiums and penalties.
 ghost use mathlib.Core.Path.{_≡_};
-ghost use Prim.Native.Nat.{ℕ, _≤_, _<_};
-ghost use lib.IntN.{ℤ, natAbs};
+ghost use Prim.Native.Nat.{_≤_, _<_};
+ghost use lib.IntN.{natAbs};
 ghost use Rattle.std.specs.Options.{Cases as BySome};
 ghost use Rattle.scoring.specs.Laws.{Worked, Tens, Rises};
 ghost use Rattle.scoring.specs.Scores.{trickPoints, bidPoints, gamePremium, slamPremium, insult, overtrick, doubledDown, undertricks, madePoints, score as scoreOf, scored, isVulnerable, scoredNS};

@@ -5,8 +5,8 @@ use Prim.Native.Nat.{ℕ, zero, suc, _+_, _-_, _*_, _/_, _<_, _≤_}
 use native.Mathlib.Nat.{suc-add, zero-add, mul-suc, suc-mul}
 use native.Mathlib.Numerals.{add-one}
 use native.Mathlib.Omega.{arith}
-use lib.IntN.{ℤ, pos, sucℤ, _+ℤ_, _*ℤ_, *ℤ-comm, *ℤ-zero, sucℤ-*ℤ}
-use lib.ListN.{length, take, drop, getD}
+use lib.IntN.{ℤ, pos, _+ℤ_, _*ℤ_, *ℤ-comm, *ℤ-zero, sucℤ-*ℤ}
+use lib.ListN.{length, take, drop}
 use Rattle.std.proofs.shelf.Lists.{at-drop-more, at-drop-all, take-take, length-take, getD-take, length-take-le}
 use Rattle.std.proofs.shelf.Signed.{ints}
 use Rattle.sheets.specs.declared.rows.Row.{Row}

@@ -1,6 +1,6 @@
 // Rules of comparison: what one score gets against another.
 ghost use mathlib.Core.Path.{_≡_};
-ghost use Prim.Native.Nat.{ℕ, _≤_};
+ghost use Prim.Native.Nat.{_≤_};
 ghost use lib.IntN.{ℤ, pos, _+ℤ_};
 ghost use Rattle.sheets.specs.Comparisons.{matchpoints, imps, impCount, Table};
 

@@ -1,6 +1,5 @@
 // Rows of a score sheet, and why a call on a sheet is refused.
 ghost use mathlib.Core.Path.{_≡_};
-ghost use Prim.Native.Nat.{ℕ};
 ghost use Rattle.sheets.specs.Rows.{number};
 
 // Two pairs that met on a board, and the score to North-South.

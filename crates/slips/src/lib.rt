@@ -1,9 +1,8 @@
 // Score slips: one row of a sheet, written as a line of three numbers.
 ghost use mathlib.Core.Path.{_≡_};
-ghost use Prim.Native.Nat.{ℕ, _≤_, _<_, _^_};
-ghost use lib.IntN.{ℤ};
+ghost use Prim.Native.Nat.{_≤_, _<_, _^_};
 ghost use lib.ListN.{length};
-ghost use Rattle.std.specs.Options.{Cases as BySome, mapped};
+ghost use Rattle.std.specs.Options.{Cases as BySome};
 ghost use Rattle.std.specs.shelf.Lists.{leading};
 ghost use Rattle.slips.specs.Slips.{isSpace, isInk, wordIn, behindWord, isDigit, natural, signed, slip};
 use sheets::rows::Row;

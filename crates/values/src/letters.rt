@@ -1,6 +1,5 @@
 // The letters of chairs and ranks, and the words for a vulnerability.
 ghost use mathlib.Core.Path.{_≡_};
-ghost use Prim.Native.Nat.{ℕ};
 ghost use Rattle.values.specs.Letters.{chairNamed, rankNamed, dealerNamed, vulnerabilityNamed};
 use cards::boards::Vulnerability;
 use cards::chairs::Chair;

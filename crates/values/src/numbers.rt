@@ -1,6 +1,5 @@
 // Board numbers.
 ghost use mathlib.Core.Path.{_≡_};
-ghost use Prim.Native.Nat.{ℕ};
 ghost use Rattle.values.specs.Numbers.{isDigit, boardNumber};
 
 fn is_digit(byte: u8) -> bool

@@ -1,10 +1,9 @@
 -- No text of a game is long.
-use mathlib.Core.List.{List, [], _∷_, _++_}
+use mathlib.Core.List.{List, [], _∷_}
 use mathlib.Core.Logic.{inl, inr}
 use mathlib.Core.Path.{_≡_}
 use Prim.Native.Nat.{ℕ, zero, suc, _+_, _*_, _^_, _<_, _≤_}
 use native.Mathlib.Omega.{arith}
-use lib.Chars.{codes}
 use lib.Dec.{eqb}
 use lib.ListN.{length, getD}
 use Rattle.std.specs.Written.{decimal}
@@ -18,7 +17,7 @@ use Rattle.cards.specs.declared.suits.Suit.{Suit}
 use Rattle.cards.specs.declared.suits.Suit.the-variants.{Clubs, Diamonds, Hearts, Spades}
 use Rattle.cards.specs.Chairs.{code, next}
 use Rattle.cards.specs.Suits.{code as suitCode}
-use Rattle.values.specs.Letters.{chairLetter, vulnerabilityWord}
+use Rattle.values.specs.Letters.{vulnerabilityWord}
 use Rattle.writer.specs.Texts.{dealText, faultText, handText, ranksBelow, suitText, tagLine, tagLines, text}
 
 decimal-short : (n : ℕ) → n < 2 ^ 64 → length (decimal n) ≤ 20

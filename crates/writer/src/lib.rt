@@ -1,9 +1,8 @@
 // The text of a game: its four tag lines, or the line that names a fault.
-ghost use mathlib.Core.List.{List, [], _∷_, _++_};
+ghost use mathlib.Core.List.{[], _∷_};
 ghost use mathlib.Core.Path.{_≡_};
-ghost use Prim.Native.Nat.{ℕ, _<_, _≤_};
+ghost use Prim.Native.Nat.{_<_, _≤_};
 ghost use lib.ListN.{length};
-ghost use lib.Chars.{codes};
 ghost use Rattle.text.specs.Pages.{Wrote};
 ghost use Rattle.values.specs.Letters.{chairLetter, rankLetter, vulnerabilityWord};
 ghost use Rattle.writer.specs.Texts.{text, tagLine, suitText, handText, dealText, tagLines, gameLines, faultText, faultLine};

@@ -1,6 +1,5 @@
 // How a contract is made, and how its doubling is told.
 ghost use mathlib.Core.Path.{_≡_};
-ghost use Prim.Native.Nat.{ℕ};
 ghost use Rattle.scoring.specs.Doublings.{code, made, withCode};
 use crate::contracts::Contract;
 use crate::contracts::Doubling;

@@ -2,9 +2,7 @@
 ghost use mathlib.Core.Bool.{cond};
 ghost use mathlib.Core.List.{[], _∷_, _++_};
 ghost use mathlib.Core.Path.{_≡_};
-ghost use Prim.Native.Nat.{ℕ};
 ghost use denote.Ref.{name};
-ghost use lib.IntN.{ℤ};
 ghost use lib.ListN.{length, set};
 ghost use Rattle.std.specs.Results.{isOk};
 ghost use Rattle.sheets.specs.Rows.{listed, pairsFit, rowAt, scoreFits, ruling};
@@ -73,7 +71,9 @@ impl<'a> Sheet<'a> {
         if !score_fits(row.score) {
             return Err(Refusal::WrongScore);
         }
-        self.rows[used] = row;
+        self.rows[used].ns = row.ns;
+        self.rows[used].ew = row.ew;
+        self.rows[used].score = row.score;
         self.used = used + 1;
         Ok(())
     }

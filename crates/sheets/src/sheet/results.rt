@@ -1,7 +1,7 @@
 // Results, under any rule of comparison.
 ghost use mathlib.Core.Path.{_≡_};
-ghost use Prim.Native.Nat.{ℕ, _-_, _*_, _/_, _^_, _<_, _≤_};
-ghost use lib.IntN.{ℤ, natAbs, pos, _*ℤ_};
+ghost use Prim.Native.Nat.{_-_, _*_, _/_, _^_, _<_, _≤_};
+ghost use lib.IntN.{natAbs};
 ghost use lib.ListN.{length, take, drop};
 ghost use Rattle.sheets.specs.Results.{against, answered, resultOf, sumOf, shared, Adds-up};
 ghost use Rattle.sheets.specs.Sheets.{held, memory};

@@ -1,7 +1,7 @@
 // What can be put on a page.
-ghost use mathlib.Core.List.{List, [], _∷_};
+ghost use mathlib.Core.List.{[], _∷_};
 ghost use mathlib.Core.Path.{_≡_};
-ghost use Prim.Native.Nat.{ℕ, _<_};
+ghost use Prim.Native.Nat.{_<_};
 ghost use Rattle.std.specs.Written.{decimal};
 ghost use Rattle.text.specs.Pages.{written, Wrote};
 use crate::page::Page;

@@ -1,11 +1,9 @@
-use mathlib.Core.Path.{_≡_}
 use native.Mathlib.Omega.{arith}
 use borrow.Author.Needs.{needs}
 use mir.Syntax.{w32}
 use mir.Val.{SFits}
-use Rattle.std.proofs.shelf.Lists.{at-drop-all}
 use Rattle.std.proofs.shelf.Signed.{ints, toZ-ofZ}
-use Rattle.sheets.specs.Results.{scoreAt, against}
+use Rattle.sheets.specs.Results.{scoreAt}
 use Rattle.sheets.proofs.Sums.{against-more, against-none, close}
 use Rattle.sheets.proofs.sheet.Sheet.sum_against.Needs as need
 
