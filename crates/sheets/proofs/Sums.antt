@@ -45,7 +45,8 @@ pub close : (f : ℤ → ℤ → ℤ) {a b s : ℤ} (xs ys : List Row) → a ≡
 close f {a} {b} {s} xs ys e z h =
     let k : s +ℤ against f b xs ≡ against f b ys = subst (λ x. s +ℤ against f x xs ≡ against f x ys) e h in omega (arith, ints)
 
-pub result-is : (f : ℤ → ℤ → ℤ) (n : ℕ) (mem : List Row) (i : ℕ) {a before after : ℤ} → i < n → a ≡ scoreAt mem i → before ≡ against f a (drop 0 (take i mem)) → after ≡ against f a (drop (i + 1) (take n mem)) → before +ℤ after ≡ resultOf f (take n mem) i
+pub result-is : (f : ℤ → ℤ → ℤ) (n : ℕ) (mem : List Row) (i : ℕ) {a before after : ℤ} → i < n → a ≡ scoreAt mem i
+    → before ≡ against f a (drop 0 (take i mem)) → after ≡ against f a (drop (i + 1) (take n mem)) → before +ℤ after ≡ resultOf f (take n mem) i
 result-is f n mem i h e b a =
     let v = result-split f n mem i h in
     let s = ap (λ x. against f x (drop 0 (take i mem))) e in
