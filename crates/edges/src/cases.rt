@@ -9,7 +9,7 @@ pub type Told = (u8, u8, usize);
 pub struct Case {
     pub board: &'static [u8],
     pub dealer: &'static [u8],
-    pub risk: &'static [u8],
+    pub vulnerable: &'static [u8],
     pub deal: &'static [u8],
     pub more: &'static [u8],
     pub told: Told,
@@ -19,7 +19,7 @@ pub const BOARD: &[u8] = b"[Board \"1\"]\n";
 
 pub const DEALER: &[u8] = b"[Dealer \"N\"]\n";
 
-pub const RISK: &[u8] = b"[Vulnerable \"None\"]\n";
+pub const VULNERABLE: &[u8] = b"[Vulnerable \"None\"]\n";
 
 pub const DEAL: &[u8] =
     b"[Deal \"N:AKQJT98765432... .AKQJT98765432.. ..AKQJT98765432. ...AKQJT98765432\"]\n";
@@ -28,7 +28,7 @@ pub const DEAL: &[u8] =
 pub const LAWFUL: Case = Case {
     board: BOARD,
     dealer: DEALER,
-    risk: RISK,
+    vulnerable: VULNERABLE,
     deal: DEAL,
     more: b"",
     told: (0, 1, 0),
@@ -44,7 +44,7 @@ pub const LINES: [Case; 9] = [
     Case {
         board: b"[Board \"1\"]\r\n",
         dealer: b"[Dealer \"N\"]\r\n",
-        risk: b"[Vulnerable \"None\"]\r\n",
+        vulnerable: b"[Vulnerable \"None\"]\r\n",
         more: b"\r\n",
         ..LAWFUL
     },
@@ -130,15 +130,15 @@ pub const TAGS: [Case; 12] = [
     Case {
         board: b"",
         dealer: b"",
-        risk: b"",
+        vulnerable: b"",
         deal: b"",
         told: (2, 25, 0),
         ..LAWFUL
     },
     Case {
         board: DEAL,
-        dealer: RISK,
-        risk: DEALER,
+        dealer: VULNERABLE,
+        vulnerable: DEALER,
         deal: BOARD,
         ..LAWFUL
     },
@@ -174,7 +174,7 @@ pub const NUMBERS: [Case; 11] = [
     Case {
         board: b"[Board \"255\"]\n",
         dealer: b"[Dealer \"S\"]\n",
-        risk: b"[Vulnerable \"NS\"]\n",
+        vulnerable: b"[Vulnerable \"NS\"]\n",
         told: (0, 255, 0),
         ..LAWFUL
     },
@@ -189,18 +189,18 @@ pub const NUMBERS: [Case; 11] = [
         ..LAWFUL
     },
     Case {
-        risk: b"[Vulnerable \"All\"]\n",
+        vulnerable: b"[Vulnerable \"All\"]\n",
         told: (3, 27, 25),
         ..LAWFUL
     },
     Case {
-        risk: b"[Vulnerable \"Love\"]\n",
+        vulnerable: b"[Vulnerable \"Love\"]\n",
         told: (3, 27, 25),
         ..LAWFUL
     },
     Case {
         dealer: b"[Vulnerable \"NS\"]\n",
-        risk: b"[Dealer \"W\"]\n",
+        vulnerable: b"[Dealer \"W\"]\n",
         told: (3, 27, 30),
         ..LAWFUL
     },
@@ -292,7 +292,7 @@ pub const ORDER: [Case; 8] = [
     Case {
         board: b"[Board \"1\"]\n",
         dealer: b"[Dealer \"N\"]\n",
-        risk: b"[Vulnerable \"None\"]\n",
+        vulnerable: b"[Vulnerable \"None\"]\n",
         more: b"[x\n",
         told: (2, 24, 124),
         ..LAWFUL
@@ -316,7 +316,7 @@ pub const ORDER: [Case; 8] = [
         ..LAWFUL
     },
     Case {
-        risk: b"[Vulnerable \"EW\"]\n",
+        vulnerable: b"[Vulnerable \"EW\"]\n",
         deal: b"[Deal \"N\"]\n",
         told: (3, 27, 25),
         ..LAWFUL

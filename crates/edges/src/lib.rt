@@ -21,7 +21,7 @@ mod tests {
         let mut file = Vec::new(heap);
         file.extend_from_slice(case.board)?;
         file.extend_from_slice(case.dealer)?;
-        file.extend_from_slice(case.risk)?;
+        file.extend_from_slice(case.vulnerable)?;
         file.extend_from_slice(case.deal)?;
         file.extend_from_slice(case.more)?;
         Ok(file)

@@ -57,7 +57,7 @@ fn is_vulnerability(value: &[u8], number: u8) -> bool
     ensures vulnerability { λ r. ⌜ r ≡ isVulnerability (now (value .entry)) number ⌝ }
 {
     match vulnerability_named(value) {
-        Some(risk) => risk.code() == vulnerability_of(number).code(),
+        Some(vulnerability) => vulnerability.code() == vulnerability_of(number).code(),
         None => false,
     }
 }

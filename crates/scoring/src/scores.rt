@@ -155,10 +155,10 @@ pub fn score(contract: Contract, vulnerable: bool, tricks: u8) -> Option<i32>
 }
 
 // Is the chair's side vulnerable?
-fn is_vulnerable(risk: Vulnerability, chair: Chair) -> bool
-    ensures covers { λ r. ⌜ r ≡ isVulnerable risk chair ⌝ }
+fn is_vulnerable(vulnerability: Vulnerability, chair: Chair) -> bool
+    ensures covers { λ r. ⌜ r ≡ isVulnerable vulnerability chair ⌝ }
 {
-    match (risk, chair) {
+    match (vulnerability, chair) {
         (Vulnerability::Neither, _) => false,
         (Vulnerability::NorthSouth, Chair::North | Chair::South) => true,
         (Vulnerability::EastWest, Chair::East | Chair::West) => true,
@@ -171,12 +171,12 @@ fn is_vulnerable(risk: Vulnerability, chair: Chair) -> bool
 pub fn score_to_ns(
     contract: Contract,
     declarer: Chair,
-    risk: Vulnerability,
+    vulnerability: Vulnerability,
     tricks: u8,
 ) -> Option<i32>
-    ensures score { λ r. ⌜ r ≡ scoredNS contract declarer risk tricks ⌝ }
+    ensures score { λ r. ⌜ r ≡ scoredNS contract declarer vulnerability tricks ⌝ }
 {
-    let points = score(contract, is_vulnerable(risk, declarer), tricks)?;
+    let points = score(contract, is_vulnerable(vulnerability, declarer), tricks)?;
     match declarer {
         Chair::North | Chair::South => Some(points),
         Chair::East | Chair::West => Some(-points),

@@ -34,10 +34,10 @@ fn chair_letter(chair: Chair) -> u8
     }
 }
 
-fn vulnerability_word(risk: Vulnerability) -> &'static [u8]
-    ensures word { λ r. ⌜ now r ≡ vulnerabilityWord risk ⌝ }
+fn vulnerability_word(vulnerability: Vulnerability) -> &'static [u8]
+    ensures word { λ r. ⌜ now r ≡ vulnerabilityWord vulnerability ⌝ }
 {
-    match risk {
+    match vulnerability {
         Vulnerability::Neither => b"None",
         Vulnerability::NorthSouth => b"NS",
         Vulnerability::EastWest => b"EW",
@@ -99,15 +99,21 @@ fn put_tag(page: &mut Page, name: &[u8], value: &[u8])
     page.put_all(b"\"]\n");
 }
 
-fn put_tags(page: &mut Page, number: u8, dealer: Chair, risk: Vulnerability, deal: &[u8; 52])
-    ensures wrote { λ _. ⌜ Wrote (text (tagLines number dealer risk (now (deal .entry)))) (now (page .entry)) (now (page .exit)) ⌝ }
-    ensures short { λ _. ⌜ length (text (tagLines number dealer risk (now (deal .entry)))) ≤ 400 ⌝ }
+fn put_tags(
+    page: &mut Page,
+    number: u8,
+    dealer: Chair,
+    vulnerability: Vulnerability,
+    deal: &[u8; 52],
+)
+    ensures wrote { λ _. ⌜ Wrote (text (tagLines number dealer vulnerability (now (deal .entry)))) (now (page .entry)) (now (page .exit)) ⌝ }
+    ensures short { λ _. ⌜ length (text (tagLines number dealer vulnerability (now (deal .entry)))) ≤ 400 ⌝ }
 {
     page.put_all(b"[Board \"");
     page.put_decimal(number as u64);
     page.put_all(b"\"]\n");
     put_tag(page, b"Dealer", &[chair_letter(dealer)]);
-    put_tag(page, b"Vulnerable", vulnerability_word(risk));
+    put_tag(page, b"Vulnerable", vulnerability_word(vulnerability));
     page.put_all(b"[Deal \"");
     put_hands(page, deal, dealer);
     page.put_all(b"\"]\n");
