@@ -120,6 +120,8 @@ mod tests {
         check_eq(sheet.add(row(6, 6, 15)), Err(Refusal::NoSpace))?;
         check_eq(sheet.result::<Imps>(0), Ok(48))?;
         check_eq(sheet.result::<Imps>(3), Err(Refusal::NoRow))?;
+        check_eq(rows[0], row(1, 999, 7600))?;
+        check_eq(rows[1], row(2, 3, -7600))?;
         check_eq(rows[2], row(4, 5, 0))
     }
 
