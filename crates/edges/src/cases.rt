@@ -45,6 +45,7 @@ pub const LINES: [Case; 9] = [
         board: b"[Board \"1\"]\r\n",
         dealer: b"[Dealer \"N\"]\r\n",
         vulnerable: b"[Vulnerable \"None\"]\r\n",
+        deal: b"[Deal \"N:AKQJT98765432... .AKQJT98765432.. ..AKQJT98765432. ...AKQJT98765432\"]\r\n",
         more: b"\r\n",
         ..LAWFUL
     },
@@ -290,11 +291,9 @@ pub const ORDER: [Case; 8] = [
         ..LAWFUL
     },
     Case {
-        board: b"[Board \"1\"]\n",
-        dealer: b"[Dealer \"N\"]\n",
-        vulnerable: b"[Vulnerable \"None\"]\n",
-        more: b"[x\n",
-        told: (2, 24, 124),
+        board: b"[Board \"0\"]\n",
+        more: b"\x1f\n",
+        told: (1, 22, 124),
         ..LAWFUL
     },
     Case {

@@ -3,7 +3,7 @@
 --     natural most word                  the number that decimal digits make, if it is at most `most`
 --     signed word                        the same below 2 ^ 31, with a minus sign or without
 --     slip text                          the row that a slip says
-use mathlib.Core.Bool.{Bool, false, cond, not}
+use mathlib.Core.Bool.{Bool, cond, not}
 use mathlib.Core.List.{List, [], _∷_}
 use Prim.Native.Nat.{ℕ, _+_, _-_, _*_}
 use lib.Dec.{eqb, leb}
@@ -15,6 +15,7 @@ use Rattle.std.specs.Options.{mapped}
 use Rattle.std.specs.shelf.Lists.{leading}
 use Rattle.sheets.specs.declared.rows.Row.{Row}
 use Rattle.tags.specs.Tags.{andThen}
+use Rattle.values.specs.Numbers.{isDigit}
 
 abbrev pub isSpace : ℕ → Bool
 isSpace b = eqb b 32
@@ -30,9 +31,6 @@ wordIn text = take (leading isInk (unspaced text)) (unspaced text)
 
 abbrev pub behindWord : List ℕ → List ℕ
 behindWord text = drop (leading isInk (unspaced text)) (unspaced text)
-
-abbrev pub isDigit : ℕ → Bool
-isDigit b = cond (leb 48 b) (leb b 57) false
 
 -- the digits behind a number so far
 abbrev pub digitsFrom : ℕ → ℕ → List ℕ → Option ℕ

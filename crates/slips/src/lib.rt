@@ -1,37 +1,35 @@
 // Score slips: one row of a sheet, written as a line of three numbers.
 ghost use mathlib.Core.Path.{_≡_};
 ghost use Prim.Native.Nat.{_≤_, _<_, _^_};
-ghost use lib.ListN.{length};
 ghost use Rattle.std.specs.Options.{Cases as BySome};
-ghost use Rattle.std.specs.shelf.Lists.{leading};
-ghost use Rattle.slips.specs.Slips.{isSpace, isInk, wordIn, behindWord, isDigit, natural, signed, slip};
+ghost use Rattle.slips.specs.Slips.{isSpace, isInk, wordIn, behindWord, natural, signed, slip};
+use runs::Alphabet;
+use runs::run_length;
 use sheets::rows::Row;
+use values::numbers::is_digit;
 
 // The largest score that is read.
 const LARGEST: u32 = 2_147_483_647;
 
-fn space_length(text: &[u8]) -> usize
-    ensures run { λ r. ⌜ r ≡ leading isSpace (now (text .entry)) ⌝ }
-    ensures within { λ r. ⌜ r ≤ length (now (text .entry)) ⌝ }
-{
-    for (i, byte) in text.iter().enumerate() {
-        if *byte != b' ' {
-            return i;
-        }
+struct Spaces;
+
+impl Alphabet for Spaces as SpaceAlphabet {
+    ghost admits = { isSpace };
+
+    fn contains(byte: u8) -> bool {
+        byte == b' '
     }
-    text.len()
 }
 
-fn word_length(text: &[u8]) -> usize
-    ensures run { λ r. ⌜ r ≡ leading isInk (now (text .entry)) ⌝ }
-    ensures within { λ r. ⌜ r ≤ length (now (text .entry)) ⌝ }
-{
-    for (i, byte) in text.iter().enumerate() {
-        if *byte == b' ' {
-            return i;
-        }
+// All bytes but a space.
+struct Ink;
+
+impl Alphabet for Ink as InkAlphabet {
+    ghost admits = { isInk };
+
+    fn contains(byte: u8) -> bool {
+        byte != b' '
     }
-    text.len()
 }
 
 // The first word of a text, and what follows it.
@@ -39,14 +37,8 @@ fn next_word<'a>(text: &'a [u8]) -> (&'a [u8], &'a [u8])
     ensures word { λ r. ⌜ now (r .0) ≡ wordIn (now (text .entry)) ⌝ }
     ensures rest { λ r. ⌜ now (r .1) ≡ behindWord (now (text .entry)) ⌝ }
 {
-    let (_, words) = text.split_at(space_length(text));
-    words.split_at(word_length(words))
-}
-
-fn is_digit(byte: u8) -> bool
-    ensures digit { λ r. ⌜ r ≡ isDigit byte ⌝ }
-{
-    byte >= b'0' && byte <= b'9'
+    let (_, words) = text.split_at(run_length::<Spaces>(text));
+    words.split_at(run_length::<Ink>(words))
 }
 
 // A number in decimal digits, if it is no larger than `most`.

@@ -1,10 +1,7 @@
 // Tag lines, `[Name "value"]`, and the tags of a file.
 ghost use mathlib.Core.Path.{_≡_};
 ghost use mathlib.Core.List.{List};
-ghost use Prim.Native.Nat.{_≤_};
-ghost use lib.ListN.{length};
 ghost use Rattle.std.specs.Options.{mapped};
-ghost use Rattle.std.specs.shelf.Lists.{leading};
 ghost use Rattle.std.specs.shelf.Text.{sameBytes};
 ghost use Rattle.lines.specs.Lines.{lines};
 ghost use Rattle.tags.specs.Tags.{behind, isNameByte, isPlainByte, tagOf, wellFormed};
@@ -13,6 +10,8 @@ ghost use Rattle.tags.specs.Views.{told, founds, outcome};
 use faults::Fault;
 use lines::Line;
 use lines::next_line;
+use runs::Alphabet;
+use runs::run_length;
 
 const LONGEST_NAME: usize = 31;
 
@@ -23,39 +22,29 @@ pub struct Tag<'a> {
     pub value: &'a [u8],
 }
 
-fn is_name_byte(byte: u8) -> bool
-    ensures name { λ r. ⌜ r ≡ isNameByte byte ⌝ }
-{
-    match byte {
-        b'A'..=b'Z' | b'a'..=b'z' | b'0'..=b'9' | b'_' => true,
-        _ => false,
+// The bytes that can stand in a name: letters, digits and underscores.
+struct NameBytes;
+
+impl Alphabet for NameBytes as NameAlphabet {
+    ghost admits = { isNameByte };
+
+    fn contains(byte: u8) -> bool {
+        match byte {
+            b'A'..=b'Z' | b'a'..=b'z' | b'0'..=b'9' | b'_' => true,
+            _ => false,
+        }
     }
 }
 
-// How many bytes from the first on can stand in a name.
-fn name_length(text: &[u8]) -> usize
-    ensures run { λ r. ⌜ r ≡ leading isNameByte (now (text .entry)) ⌝ }
-    ensures within { λ r. ⌜ r ≤ length (now (text .entry)) ⌝ }
-{
-    for (i, byte) in text.iter().enumerate() {
-        if !is_name_byte(*byte) {
-            return i;
-        }
-    }
-    text.len()
-}
+// The bytes that can stand in a value: all but a double quote.
+struct ValueBytes;
 
-// How many bytes stand before the first double quote.
-fn value_length(text: &[u8]) -> usize
-    ensures run { λ r. ⌜ r ≡ leading isPlainByte (now (text .entry)) ⌝ }
-    ensures within { λ r. ⌜ r ≤ length (now (text .entry)) ⌝ }
-{
-    for (i, byte) in text.iter().enumerate() {
-        if *byte == b'"' {
-            return i;
-        }
+impl Alphabet for ValueBytes as ValueAlphabet {
+    ghost admits = { isPlainByte };
+
+    fn contains(byte: u8) -> bool {
+        byte != b'"'
     }
-    text.len()
 }
 
 // What follows a mark that the text begins with.
@@ -70,9 +59,9 @@ pub fn parse_tag<'a>(line: &'a [u8]) -> Option<Tag<'a>>
     ensures tag { λ r. ⌜ told r ≡ tagOf (now (line .entry)) ⌝ }
 {
     let inner = behind(b"[", line)?;
-    let (name, rest) = inner.split_at(name_length(inner));
+    let (name, rest) = inner.split_at(run_length::<NameBytes>(inner));
     let quoted = behind(b" \"", rest)?;
-    let (value, rest) = quoted.split_at(value_length(quoted));
+    let (value, rest) = quoted.split_at(run_length::<ValueBytes>(quoted));
     let end = behind(b"\"]", rest)?;
     if name.is_empty() || name.len() > LONGEST_NAME || !end.is_empty() {
         return None;

@@ -2,7 +2,8 @@
 ghost use mathlib.Core.Path.{_≡_};
 ghost use Rattle.values.specs.Numbers.{isDigit, boardNumber};
 
-fn is_digit(byte: u8) -> bool
+// Is the byte a decimal digit?
+pub fn is_digit(byte: u8) -> bool
     ensures digit { λ r. ⌜ r ≡ isDigit byte ⌝ }
 {
     byte >= b'0' && byte <= b'9'
