@@ -1,4 +1,7 @@
 // The record of a finished board, as the archive keeps it.
+
+#![tactic(auto)]
+
 ghost use Rattle.std.specs.Prelude.{◌≡◌};
 ghost use Rattle.archive.specs.Writing.{number};
 

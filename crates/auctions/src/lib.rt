@@ -1,4 +1,7 @@
 // The auction: which call is lawful, when it ends, and what it comes to.
+
+#![tactic(auto)]
+
 ghost use Rattle.std.specs.Prelude.{◌≡◌};
 ghost use Rattle.auctions.specs.Auctions.{by_opponent, call_ruling, called, height, is_double, is_over, standing, start};
 ghost use Rattle.auctions.specs.Laws.{AtMost319, DoubledByOpponents, Lasts, PassIsLawful, Steps, Turns};

@@ -1,4 +1,7 @@
 // The codes of the game: chairs, suits, denominations, cards, hands, calls, boards and deals.
+
+#![tactic(auto)]
+
 pub mod boards;
 pub mod calls;
 pub mod chairs;

@@ -1,4 +1,7 @@
 // Deal files at the edges of the rules.
+
+#![tactic(auto)]
+
 #[cfg(test)]
 mod cases;
 

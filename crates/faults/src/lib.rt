@@ -1,4 +1,7 @@
 // What a deal file is refused for.
+
+#![tactic(auto)]
+
 ghost use Rattle.std.specs.Prelude.{◌≡◌};
 ghost use Rattle.faults.specs.Faults.{layer, number, offset};
 

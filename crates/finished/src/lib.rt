@@ -1,4 +1,7 @@
 // A finished board, passed out or played to the last card, and what it came to.
+
+#![tactic(auto)]
+
 ghost use Rattle.std.specs.Prelude.{◌≡◌, ◌≤◌, true, take, unsigned_abs};
 ghost use Rattle.finished.specs.Finished.{board_of, is_complete};
 

@@ -1,4 +1,7 @@
 // Hands. A hand is a number whose bit c is set when it holds the card c.
+
+#![tactic(auto)]
+
 ghost use Rattle.std.specs.Prelude.{◌≡◌, ◌+◌, ◌≤◌};
 ghost use Rattle.cards.specs.Chairs.{code};
 ghost use Rattle.cards.specs.Hands.{dealt};

@@ -1,4 +1,7 @@
 // The laws over a whole board: who is asked and who acts, what a hand still holds, and the ruling on an act.
+
+#![tactic(auto)]
+
 ghost use Rattle.std.specs.Prelude.{◌≡◌};
 ghost use Rattle.laws.specs.History.{act_ruling, hand, seats};
 ghost use Rattle.laws.specs.Lawful.{AtMost371, EachCardOnce, OneToEachTrick, PlayedFromHand, SuitFollowed, WayOn};

@@ -1,4 +1,7 @@
 // The lines of a file, and the questions put to each line.
+
+#![tactic(auto)]
+
 ghost use Rattle.std.specs.Prelude.{◌≡◌, ◌+◌, ◌-◌, ◌<◌, ◌≤◌, length, drop, Some};
 ghost use Rattle.lines.specs.Lines.{line_length, line_size, printable};
 ghost use Rattle.lines.specs.Checks.{line_checked, file_checked};

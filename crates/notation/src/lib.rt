@@ -1,4 +1,7 @@
 // Calls as text: Pass, X, XX, and the bids from 1C to 7NT.
+
+#![tactic(auto)]
+
 ghost use Rattle.std.specs.Prelude.{◌≡◌};
 ghost use Rattle.text.specs.Pages.{Wrote};
 ghost use Rattle.notation.specs.Laws.{NamedOnly, ReadsBack};

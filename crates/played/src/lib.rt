@@ -1,4 +1,7 @@
 // A real board played out act by act, and tricks worked by hand.
+
+#![tactic(auto)]
+
 #[cfg(test)]
 mod cases;
 

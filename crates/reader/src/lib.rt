@@ -1,4 +1,7 @@
 // Reading a deal file: the lines of one game, its tags and what they say.
+
+#![tactic(auto)]
+
 ghost use Rattle.std.specs.Prelude.{◌≡◌};
 ghost use Rattle.lines.specs.Lines.{lines};
 ghost use Rattle.tags.specs.Views.{found};

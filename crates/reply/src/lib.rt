@@ -1,4 +1,7 @@
 // What the program answers to a deal file.
+
+#![tactic(auto)]
+
 ghost use Rattle.std.specs.Prelude.{◌≡◌, []};
 ghost use Rattle.text.specs.Pages.{written};
 ghost use Rattle.reply.specs.Replies.{reply_to};

@@ -1,4 +1,7 @@
 // Hears auctions from standard input: rules on every call, and prints what each auction comes to.
+
+#![tactic(auto)]
+
 ghost use Rattle.std.specs.Prelude.{◌≡◌, ◌<◌, false};
 
 use auctions::Standing;

@@ -1,4 +1,7 @@
 // Rulings on what a player answers: an act is accepted, or it is refused for an irregularity.
+
+#![tactic(auto)]
+
 ghost use Rattle.std.specs.Prelude.{◌≡◌};
 ghost use Rattle.rulings.specs.Rulings.{number};
 

@@ -1,4 +1,7 @@
 // Runs: how many bytes of a text, from the first on, belong to an alphabet.
+
+#![tactic(auto)]
+
 ghost use Rattle.std.specs.Prelude.{◌≡◌, ℕ, ◌≤◌, Bool, length};
 ghost use Rattle.std.specs.List.{prefix_len};
 

@@ -1,3 +1,6 @@
 // The score of a contract.
+
+#![tactic(auto)]
+
 pub mod contracts;
 pub mod scores;

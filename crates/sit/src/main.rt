@@ -1,4 +1,7 @@
 // Reads a deal file from standard input, and prints its deal or its fault.
+
+#![tactic(auto)]
+
 use input::fill;
 use reply::reply;
 use std::io;

@@ -1,4 +1,7 @@
 // Score slips: one row of a sheet, written as a line of three numbers.
+
+#![tactic(auto)]
+
 ghost use Rattle.std.specs.Prelude.{◌≡◌, ◌^◌, ◌<◌, ◌≤◌, MatchOption};
 ghost use Rattle.slips.specs.Slips.{is_space, is_ink, word_in, behind_word, natural, signed, slip};
 

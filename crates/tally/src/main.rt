@@ -1,4 +1,7 @@
 // Reads score slips from standard input, and prints each row with its matchpoints and IMPs.
+
+#![tactic(auto)]
+
 use input::fill;
 use lines::next_line;
 use sheets::comparisons::{Imps, Matchpoints};

@@ -1,4 +1,7 @@
 // Scores, travellers and the edges of a sheet, worked by hand.
+
+#![tactic(auto)]
+
 #[cfg(test)]
 mod tests {
     use cards::boards::Vulnerability;

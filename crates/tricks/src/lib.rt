@@ -1,4 +1,7 @@
 // Tricks: which card is lawful, who wins a trick, and how many tricks each side wins.
+
+#![tactic(auto)]
+
 ghost use Rattle.std.specs.Prelude.{◌≡◌, ◌/◌, ◌≤◌, length};
 ghost use Rattle.rulings.specs.Rulings.{ruling};
 ghost use Rattle.tricks.specs.Cards.{card_ruling, follows, is_of, lowest_legal};

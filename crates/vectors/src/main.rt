@@ -1,4 +1,7 @@
 // Answers the files that its arguments name, as `sit` does, each under its name.
+
+#![tactic(auto)]
+
 use reply::reply;
 use std::io::Write;
 use std::{env, fs, io};

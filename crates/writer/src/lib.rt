@@ -1,4 +1,7 @@
 // The text of a game: its four tag lines, or the line that names a fault.
+
+#![tactic(auto)]
+
 ghost use Rattle.std.specs.Prelude.{◌≡◌, ◌<◌, ◌≤◌, [], ◌∷◌, length};
 ghost use Rattle.text.specs.Pages.{Wrote};
 ghost use Rattle.values.specs.Letters.{chair_letter, rank_letter, vulnerability_word};

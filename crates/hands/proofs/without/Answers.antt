@@ -4,11 +4,11 @@ use Rattle.hands.proofs.Bits.{held_below, without_held}
 use Rattle.hands.proofs.Holdings.{without_none}
 use Rattle.hands.proofs.without.Goals as goal
 
-pub overflow-shl-result : goal.overflow-shl-result
-overflow-shl-result c = held_below c.args.hand 64 c.args.card (omega arith) (sym c.holds.ensures.holds ∙ c.if-holds.true)
+pub overflow_shl-result : goal.overflow_shl-result
+overflow_shl-result c = held_below c.args.hand 64 c.args.card (omega arith) (sym c.holds.ensures.holds ∙ c.if-holds.true)
 
-pub overflow-sub-result : goal.overflow-sub-result
-overflow-sub-result c =
+pub overflow_sub-result : goal.overflow_sub-result
+overflow_sub-result c =
     let h = sym c.holds.ensures.holds ∙ c.if-holds.true in
     omega (arith, one_shl c.args.card 64 (held_below c.args.hand 64 c.args.card (omega arith) h), without_held c.args.hand c.args.card h)
 

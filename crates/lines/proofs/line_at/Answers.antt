@@ -8,7 +8,7 @@ pub returns : goal.returns
 returns c =
     let file = c.args.file.now in
     let at = c.args.at in
-    let s = c.span-at-span in
+    let s = c.span_at-span in
     let some : 0 < length (drop at file) = simp length-drop (omega arith) in
     let l : s.result.end - at ≡ line_length (drop at file) = omega (arith, s.ensures.end) in
     record {

@@ -4,7 +4,7 @@ use Rattle.text.proofs.Writes.{nothing, then, told}
 use Rattle.notation.proofs.put_call.Goals as goal
 
 pub returns-in-Some : goal.returns-in-Some
-returns-in-Some c = record { wrote = told (grind (arith, nat_tests)) (then c.put.ensures.wrote c.put-all-in-Some.ensures.wrote) }
+returns-in-Some c = record { wrote = told (grind (arith, nat_tests)) (then c.put.ensures.wrote c.put_all-in-Some.ensures.wrote) }
 
-pub returns-in-default-zip : goal.returns-in-default-zip
-returns-in-default-zip c = record { wrote = told (grind (arith, nat_tests)) (nothing _) }
+pub returns-in_default-zip : goal.returns-in_default-zip
+returns-in_default-zip c = record { wrote = told (grind (arith, nat_tests)) (nothing _) }

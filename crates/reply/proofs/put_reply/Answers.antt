@@ -9,9 +9,9 @@ returns c =
       text = λ empty. elim c.match-read.branch [
         | in-Ok w ↦
             game_replied c.args.file.now empty w.in-Ok.number _ _ w.in-Ok.ensures.answer c.read.ensures.bytes
-            w.put-game.ensures.wrote (since w.page-is c.put.ensures.wrote) w.put-game.ensures.short
+            w.put_game.ensures.wrote (since w.page-is c.put.ensures.wrote) w.put_game.ensures.short
         | in-Err w ↦
             fault_replied c.args.file.now empty w.in-Err.fault w.in-Err.ensures.answer
-            w.put-fault.ensures.wrote (since w.page-is c.put.ensures.wrote) w.put-fault.ensures.short
+            w.put_fault.ensures.wrote (since w.page-is c.put.ensures.wrote) w.put_fault.ensures.short
       ];
     }

@@ -4,8 +4,8 @@ use Rattle.std.proofs.lemmas.Bool.Decides.{nat_tests}
 use Rattle.slips.specs.Slips.{digits_from}
 use Rattle.slips.proofs.natural.Goals as goal
 
-pub returns-then-not-is-digit : goal.returns-then-not-is-digit
-returns-then-not-is-digit c =
+pub returns-then-not-is_digit : goal.returns-then-not-is_digit
+returns-then-not-is_digit c =
     let e = at_drop_more (digits_from c.args.most c.loop-byte.number) c.args.word.now c.loop-byte.byte-index 0 (omega arith) in
     record { number = grind (arith, nat_tests); small = λ z. z }
 

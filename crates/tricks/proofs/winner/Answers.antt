@@ -19,11 +19,11 @@ loop-card-preserved c =
       | else-beats w ↦ rw (w.by-is, w.best-is, c.next-turn.ensures.chair) (sym (e ∙ cond-false _ _ _ (sym c.beats.ensures.beats ∙ w.if-beats.false)) ∙ c.loop-card.invariant)
     ]
 
-pub returns-then-is-empty : goal.returns-then-is-empty
-returns-then-is-empty c = record { winner = sym (ap (winner c.args.trumps c.args.leader) (nil_from_length c.args.trick.now (eqb-true _ 0 (sym c.if-is-empty.ensures)))); highest = highest_wins }
+pub returns-then-is_empty : goal.returns-then-is_empty
+returns-then-is_empty c = record { winner = sym (ap (winner c.args.trumps c.args.leader) (nil_from_length c.args.trick.now (eqb-true _ 0 (sym c.if-is_empty.ensures)))); highest = highest_wins }
 
 pub returns : goal.returns
 returns c =
     let rest = take (length c.args.trick.now - 1) (drop 1 c.args.trick.now) in
     let e = at_drop_all (winner_from c.args.trumps c.loop-card.by c.loop-card.best (next c.loop-card.turn)) rest c.loop-card.card-index c.loop-card-test.false in
-    record { winner = sym e ∙ c.loop-card.invariant ∙ sym (winner_split c.args.trumps c.args.leader c.args.trick.now (omega (arith, eqb-false (length c.args.trick.now) 0 (sym c.if-is-empty.ensures)))); highest = highest_wins }
+    record { winner = sym e ∙ c.loop-card.invariant ∙ sym (winner_split c.args.trumps c.args.leader c.args.trick.now (omega (arith, eqb-false (length c.args.trick.now) 0 (sym c.if-is_empty.ensures)))); highest = highest_wins }

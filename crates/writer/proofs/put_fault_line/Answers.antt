@@ -10,7 +10,7 @@ unfolding fault_text
 returns c =
     record {
       wrote = told (simp append_assoc)
-          (then c.put-all.ensures.wrote (then c.put-decimal.ensures.wrote (then c.put.ensures.wrote (then c.put-decimal-2.ensures.wrote
-          (then c.put-2.ensures.wrote (then c.put-decimal-3.ensures.wrote c.put-3.ensures.wrote))))));
+          (then c.put_all.ensures.wrote (then c.put_decimal.ensures.wrote (then c.put.ensures.wrote (then c.put_decimal-2.ensures.wrote
+          (then c.put-2.ensures.wrote (then c.put_decimal-3.ensures.wrote c.put-3.ensures.wrote))))));
       short = fault_short c.args.layer c.args.number c.args.offset (omega arith) (omega arith) (omega arith);
     }

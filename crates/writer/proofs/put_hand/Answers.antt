@@ -6,6 +6,6 @@ pub returns : goal.returns
 unfolding hand_text
 returns c =
     record {
-      wrote = then c.put-suit.ensures.wrote (then c.put.ensures.wrote (then c.put-suit-2.ensures.wrote (then c.put-2.ensures.wrote
-          (then c.put-suit-3.ensures.wrote (then c.put-3.ensures.wrote c.put-suit-4.ensures.wrote)))));
+      wrote = then c.put_suit.ensures.wrote (then c.put.ensures.wrote (then c.put_suit-2.ensures.wrote (then c.put-2.ensures.wrote
+          (then c.put_suit-3.ensures.wrote (then c.put-3.ensures.wrote c.put_suit-4.ensures.wrote)))));
     }

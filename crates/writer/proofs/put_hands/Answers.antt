@@ -12,7 +12,7 @@ returns c =
     let third = c.next-third.ensures.chair ∙ ap next second in
     let fourth = c.next.ensures.chair ∙ ap next third in
     record {
-      wrote = then (told (ap (λ (b : ℕ). b ∷ []) c.chair-letter.ensures.letter) c.put.ensures.wrote) (then c.put-2.ensures.wrote
-          (then c.put-hand.ensures.wrote (then c.put-3.ensures.wrote (then (told (ap hand second) c.put-hand-2.ensures.wrote) (then c.put-4.ensures.wrote
-          (then (told (ap hand third) c.put-hand-3.ensures.wrote) (then c.put-5.ensures.wrote (told (ap hand fourth) c.put-hand-4.ensures.wrote))))))));
+      wrote = then (told (ap (λ (b : ℕ). b ∷ []) c.chair_letter.ensures.letter) c.put.ensures.wrote) (then c.put-2.ensures.wrote
+          (then c.put_hand.ensures.wrote (then c.put-3.ensures.wrote (then (told (ap hand second) c.put_hand-2.ensures.wrote) (then c.put-4.ensures.wrote
+          (then (told (ap hand third) c.put_hand-3.ensures.wrote) (then c.put-5.ensures.wrote (told (ap hand fourth) c.put_hand-4.ensures.wrote))))))));
     }

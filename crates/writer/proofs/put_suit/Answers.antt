@@ -14,7 +14,7 @@ loop-rank-preserved c =
 pub loop-rank-preserved-then-deal-lowest : goal.loop-rank-preserved-then-deal-lowest
 loop-rank-preserved-then-deal-lowest c =
     let l = c.loop-rank in
-    let letter = told (ap (λ (b : ℕ). b ∷ []) c.rank-letter.ensures.letter) c.put.ensures.wrote in
+    let letter = told (ap (λ (b : ℕ). b ∷ []) c.rank_letter.ensures.letter) c.put.ensures.wrote in
     (_, then l.invariant.1 letter, with_one_card c.args.deal.now c.code-to.result (13 * c.code-lowest.result) l.rank (omega arith) (omega arith) l.invariant.0 _ c.if-deal-lowest.true l.invariant.2)
 
 pub returns : goal.returns

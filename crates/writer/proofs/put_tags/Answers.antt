@@ -15,10 +15,10 @@ returns c =
     let dealer = tag_line (codes "Dealer") (chair_letter x ∷ []) in
     let vulnerability = tag_line (codes "Vulnerable") (vulnerability_word v) in
     let deal = tag_line (codes "Deal") (deal_text d x) in
-    let first = tag_put (codes "Board") (decimal n) c.put-all.ensures.wrote c.put-decimal.ensures.wrote c.put-all-2.ensures.wrote in
-    let second = told (ap (λ (b : ℕ). text (tag_line (codes "Dealer") (b ∷ []) ∷ [])) c.chair-letter.ensures.letter) c.put-tag.ensures.wrote in
-    let third = told (ap (λ w. text (tag_line (codes "Vulnerable") w ∷ [])) c.vulnerability-word.ensures.word) c.put-tag-2.ensures.wrote in
-    let fourth = tag_put (codes "Deal") (deal_text d x) c.put-all-3.ensures.wrote c.put-hands.ensures.wrote c.put-all-4.ensures.wrote in
+    let first = tag_put (codes "Board") (decimal n) c.put_all.ensures.wrote c.put_decimal.ensures.wrote c.put_all-2.ensures.wrote in
+    let second = told (ap (λ (b : ℕ). text (tag_line (codes "Dealer") (b ∷ []) ∷ [])) c.chair_letter.ensures.letter) c.put_tag.ensures.wrote in
+    let third = told (ap (λ w. text (tag_line (codes "Vulnerable") w ∷ [])) c.vulnerability_word.ensures.word) c.put_tag-2.ensures.wrote in
+    let fourth = tag_put (codes "Deal") (deal_text d x) c.put_all-3.ensures.wrote c.put_hands.ensures.wrote c.put_all-4.ensures.wrote in
     record {
       wrote = more_lines (tag_line (codes "Board") (decimal n)) (dealer ∷ vulnerability ∷ deal ∷ []) first (more_lines dealer (vulnerability ∷ deal ∷ []) second (more_lines vulnerability (deal ∷ []) third fourth));
       short = tags_short n x v d (omega arith);

@@ -9,5 +9,5 @@ use Rattle.archive.proofs.lines.put_auction.Goals as goal
 
 pub returns : goal.returns
 returns c =
-    let tag = told (ap (λ (b : ℕ). text (tag_line (codes "Auction") (b ∷ []) ∷ [])) c.chair-letter.ensures.letter) c.put-tag.ensures.wrote in
-    record { wrote = more_lines (tag_line (codes "Auction") (chair_letter c.args.dealer ∷ [])) (rows (map call_text c.args.calls.now)) tag c.put-calls.ensures.wrote }
+    let tag = told (ap (λ (b : ℕ). text (tag_line (codes "Auction") (b ∷ []) ∷ [])) c.chair_letter.ensures.letter) c.put_tag.ensures.wrote in
+    record { wrote = more_lines (tag_line (codes "Auction") (chair_letter c.args.dealer ∷ [])) (rows (map call_text c.args.calls.now)) tag c.put_calls.ensures.wrote }

@@ -19,9 +19,9 @@ loop-i-preserved c =
     let rest = in_rows (l.i + 1) n (drop (l.i + 1) words) in
     let here : in_rows l.i n (drop l.i words) ≡ word ++ (end_of_word l.i n ∷ rest) =
     at_drop_more (in_rows l.i n) words l.i [] (omega (arith, length-map calls call_text)) ∙ ap (λ w. w ++ (end_of_word l.i n ∷ rest)) (get_or-map call_text calls l.i 0 [] c.loop-i-test.true) in
-    let end = told (ap (λ (b : ℕ). b ∷ []) c.end-of-word.ensures.end) c.put.ensures.wrote in (
+    let end = told (ap (λ (b : ℕ). b ∷ []) c.end_of_word.ensures.end) c.put.ensures.wrote in (
       _,
-      then l.invariant.1 (then c.put-call.ensures.wrote end),
+      then l.invariant.1 (then c.put_call.ensures.wrote end),
       append_assoc l.invariant.0 (word ++ (end_of_word l.i n ∷ [])) rest ∙ ap (λ t. l.invariant.0 ++ t) (append_assoc word (end_of_word l.i n ∷ []) rest ∙ sym here) ∙ l.invariant.2,
     )
 

@@ -9,6 +9,6 @@ returns c =
     let result = tag_line (codes "Result") [] in
     let score = tag_line (codes "Score") (codes "NS 0") in
     record {
-      wrote = more_lines (tag_line (codes "Declarer") []) (contract ∷ result ∷ score ∷ []) c.put-tag.ensures.wrote
-          (more_lines contract (result ∷ score ∷ []) c.put-tag-2.ensures.wrote (more_lines result (score ∷ []) c.put-tag-3.ensures.wrote c.put-tag-4.ensures.wrote));
+      wrote = more_lines (tag_line (codes "Declarer") []) (contract ∷ result ∷ score ∷ []) c.put_tag.ensures.wrote
+          (more_lines contract (result ∷ score ∷ []) c.put_tag-2.ensures.wrote (more_lines result (score ∷ []) c.put_tag-3.ensures.wrote c.put_tag-4.ensures.wrote));
     }

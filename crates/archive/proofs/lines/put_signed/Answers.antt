@@ -10,7 +10,7 @@ pub returns : goal.returns
 returns c =
     let z = c.args.number in
     let same : to_z w32 (of_z w32 z) ≡ z = omega (arith, ints) in
-    let size = told (ap decimal (c.unsigned-abs.ensures.value ∙ ap nat_abs same)) c.put-decimal.ensures.wrote in
+    let size = told (ap decimal (c.unsigned_abs.ensures.value ∙ ap nat_abs same)) c.put_decimal.ensures.wrote in
     elim c.if-number-lt0.branch [
       | then-number-lt0 w ↦ record { wrote = told (signed_below z (subst (λ x. lt_z x (pos 0) ≡ true) same w.if-number-lt0.true)) (then w.put.ensures.wrote (since w.page-is size)) }
       | else-number-lt0 w ↦ record { wrote = told (signed_above z (subst (λ x. lt_z x (pos 0) ≡ false) same w.if-number-lt0.false)) (since w.page-is size) }

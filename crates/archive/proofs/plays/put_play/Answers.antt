@@ -10,5 +10,5 @@ use Rattle.archive.proofs.plays.put_play.Goals as goal
 pub returns : goal.returns
 returns c =
     let cards = c.args.cards.now in
-    let tag = told (ap (λ (b : ℕ). text (tag_line (codes "Play") (b ∷ []) ∷ [])) c.chair-letter.ensures.letter) c.put-tag.ensures.wrote in
-    record { wrote = more_lines (tag_line (codes "Play") (chair_letter c.args.opening ∷ [])) (trick_rows c.args.trumps c.args.opening cards (tricks_in cards)) tag c.put-tricks.ensures.wrote }
+    let tag = told (ap (λ (b : ℕ). text (tag_line (codes "Play") (b ∷ []) ∷ [])) c.chair_letter.ensures.letter) c.put_tag.ensures.wrote in
+    record { wrote = more_lines (tag_line (codes "Play") (chair_letter c.args.opening ∷ [])) (trick_rows c.args.trumps c.args.opening cards (tricks_in cards)) tag c.put_tricks.ensures.wrote }

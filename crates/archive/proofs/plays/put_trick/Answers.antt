@@ -12,6 +12,6 @@ returns c =
     let second = c.next-second.ensures.chair in
     let third = c.next-third.ensures.chair ∙ ap next second in
     let fourth = c.next.ensures.chair ∙ ap next third in
-    let row = then c.put-card-of.ensures.wrote (then c.put.ensures.wrote (then (told (ap card second) c.put-card-of-2.ensures.wrote) (then c.put-2.ensures.wrote
-    (then (told (ap card third) c.put-card-of-3.ensures.wrote) (then c.put-3.ensures.wrote (told (ap card fourth) c.put-card-of-4.ensures.wrote)))))) in
+    let row = then c.put_card_of.ensures.wrote (then c.put.ensures.wrote (then (told (ap card second) c.put_card_of-2.ensures.wrote) (then c.put-2.ensures.wrote
+    (then (told (ap card third) c.put_card_of-3.ensures.wrote) (then c.put-3.ensures.wrote (told (ap card fourth) c.put_card_of-4.ensures.wrote)))))) in
     record { wrote = then row c.put-4.ensures.wrote }

@@ -17,7 +17,7 @@ loop-k-preserved c =
     let cards = c.args.cards.now in
     let k = c.loop-k.k in
     let four : 4 * k + 4 - 4 * k ≡ 4 = omega arith in
-    let row = told (ap₂ (λ m n. text (trick_columns m (take n (drop (4 * k) cards)) l ∷ [])) c.loop-k.invariant.0 four) c.put-trick.ensures.wrote in (
+    let row = told (ap₂ (λ m n. text (trick_columns m (take n (drop (4 * k) cards)) l ∷ [])) c.loop-k.invariant.0 four) c.put_trick.ensures.wrote in (
       c.winner-leader.ensures.winner ∙ leader_next t l cards k c.loop-k.leader c.loop-k.invariant.0,
       told (ap (λ n. text (trick_rows t l cards n)) (sym (add-one k))) (lines_put (trick_rows t l cards k) (trick_columns (leader t l cards k) (trick cards k) l ∷ []) c.loop-k.invariant.1 row),
     )

@@ -9,8 +9,8 @@ use Rattle.cards.proofs.hands.dealt_to.Goals as goal
 pub loop-card-init : goal.loop-card-init
 loop-card-init c = (omega arith, sym (at_drop_all (λ ys. dealt ys c.args.to) c.args.deal.now 52 (omega arith)))
 
-pub overflow-mul-hand : goal.overflow-mul-hand
-overflow-mul-hand c = omega (arith, c.loop-card.invariant.0, pow_below (52 - c.loop-card.card) 62 (omega arith))
+pub overflow_mul-hand : goal.overflow_mul-hand
+overflow_mul-hand c = omega (arith, c.loop-card.invariant.0, pow_below (52 - c.loop-card.card) 62 (omega arith))
 
 pub loop-card-preserved : goal.loop-card-preserved
 loop-card-preserved c =

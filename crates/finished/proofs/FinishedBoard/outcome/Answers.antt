@@ -8,4 +8,4 @@ returns c =
     let f = c.args.self.now in
     let called : f.called - 0 ≡ f.called = omega arith in
     let played : f.played - 0 ≡ f.played = omega arith in
-    record { outcome = c.outcome-of.ensures.outcome ∙ ap₂ (λ i j. came_to (board_of 0 f.dealer f.vulnerability [] (take i f.calls) (take j f.cards))) called played }
+    record { outcome = c.outcome_of.ensures.outcome ∙ ap₂ (λ i j. came_to (board_of 0 f.dealer f.vulnerability [] (take i f.calls) (take j f.cards))) called played }

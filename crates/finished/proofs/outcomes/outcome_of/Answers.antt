@@ -7,31 +7,31 @@ use Rattle.finished.specs.Finished.{board_of}
 use Rattle.finished.proofs.Scored.{came_none, came_as, score_small}
 use Rattle.finished.proofs.outcomes.outcome_of.Goals as goal
 
-pub returns-in-default : goal.returns-in-default
-returns-in-default c =
-    let none = ap (option_map terms) (sym c.in-default.is) ∙ c.contract.ensures.contract ∙ ap contract_of c.of.ensures.standing in
+pub returns-in_default : goal.returns-in_default
+returns-in_default c =
+    let none = ap (option_map terms) (sym c.in_default.is) ∙ c.contract.ensures.contract ∙ ap contract_of c.of.ensures.standing in
     record { outcome = came_none (board_of 0 c.args.dealer c.args.vulnerability [] c.args.calls.now c.args.cards.now) none }
 
 -- a small score is kept in 32 bits as it is
 same : (z : ℤ) → nat_abs z ≤ 7600 → to_z w32 (of_z w32 z) ≡ z
 same z l = omega (arith, ints)
 
-pub invariant-of-result : goal.invariant-of-result
-invariant-of-result c =
+pub invariant_of-result : goal.invariant_of-result
+invariant_of-result c =
     let few : c.of-tricks.result.won ≤ 13 = omega (arith, c.of-tricks.ensures.few, c.requires) in
-    let small = score_small c.in-Some.contract c.in-ok-declarer.declarer c.args.vulnerability c.of-tricks.result.won c.in-ok-score.score few c.in-ok-score.ensures.score in
-    (few, (subst (λ z. nat_abs z ≤ 7600) (sym (same c.in-ok-score.score small)) small, tt))
+    let small = score_small c.in-Some.contract c.in_ok-declarer.declarer c.args.vulnerability c.of-tricks.result.won c.in_ok-score.score few c.in_ok-score.ensures.score in
+    (few, (subst (λ z. nat_abs z ≤ 7600) (sym (same c.in_ok-score.score small)) small, tt))
 
 pub returns : goal.returns
 returns c =
     let b = board_of 0 c.args.dealer c.args.vulnerability [] c.args.calls.now c.args.cards.now in
     let k = c.in-Some.contract in
-    let x = c.in-ok-declarer.declarer in
+    let x = c.in_ok-declarer.declarer in
     let t = c.of-tricks.result.won in
-    let z = c.in-ok-score.score in
-    let score = c.in-ok-score.ensures.score in
+    let z = c.in_ok-score.score in
+    let score = c.in_ok-score.ensures.score in
     let contract = ap (option_map terms) (sym c.in-Some.is) ∙ c.contract.ensures.contract ∙ ap contract_of c.of.ensures.standing in
-    let declarer = sym c.in-ok-declarer.was ∙ c.declarer.ensures.declarer in
+    let declarer = sym c.in_ok-declarer.was ∙ c.declarer.ensures.declarer in
     let tricks = ap (λ (p : Progress). p.won) c.of-tricks.ensures.progress in
     let small = score_small k x c.args.vulnerability t z (omega (arith, c.of-tricks.ensures.few, c.requires)) score in
     record { outcome = ap (λ y. Some (record { contract = terms k; declarer = x; tricks = t; score = y })) (same z small) ∙ came_as b k x t z contract declarer tricks score }

@@ -8,9 +8,9 @@ use Rattle.scoring.proofs.scores.points.Goals as goal
 pub returns-then-tricks-needed : goal.returns-then-tricks-needed
 returns-then-tricks-needed c =
     let k = c.args.contract in
-    let e = is_made k.level k.denomination k.doubling c.args.vulnerable c.args.tricks c.made-points.result (omega arith) c.made-points.ensures.points in
+    let e = is_made k.level k.denomination k.doubling c.args.vulnerable c.args.tricks c.made_points.result (omega arith) c.made_points.ensures.points in
     let b = (tens k.level k.denomination k.doubling c.args.vulnerable c.args.tricks k.least k.most c.requires).0 in
-    let s : to_z w32 c.made-points.result ≡ score k.level k.denomination k.doubling c.args.vulnerable c.args.tricks = omega (arith, ints) in
+    let s : to_z w32 c.made_points.result ≡ score k.level k.denomination k.doubling c.args.vulnerable c.args.tricks = omega (arith, ints) in
     record { score = s; bounded = sized _ _ s b }
 
 pub returns-else-tricks-needed : goal.returns-else-tricks-needed

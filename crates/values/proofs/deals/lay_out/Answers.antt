@@ -8,5 +8,5 @@ returns c =
     let value = c.args.value.now in
     let long : 2 ≤ length value = search rules in
     let colon : get_or value 1 0 ≡ 58 = search rules in
-    let e = hands_of value c.in-ok-first.first long colon (sym c.chair-named.ensures.chair ∙ c.in-ok-first.was) in
-    record { laid = c.lay-out-hands.ensures.laid ∙ ap (layout c.args.laid.now false) (sym e) }
+    let e = hands_of value c.in_ok-first.first long colon (sym c.chair_named.ensures.chair ∙ c.in_ok-first.was) in
+    record { laid = c.lay_out_hands.ensures.laid ∙ ap (layout c.args.laid.now false) (sym e) }

@@ -3,16 +3,16 @@ use Rattle.std.proofs.lemmas.List.{at_drop_more, at_drop_all}
 use Rattle.values.specs.Cursors.{outcome}
 use Rattle.values.proofs.deals.lay_out_hands.Goals as goal
 
-pub returns-in-err-cursor : goal.returns-in-err-cursor
-returns-in-err-cursor c =
+pub returns-in_err-cursor : goal.returns-in_err-cursor
+returns-in_err-cursor c =
     let e = at_drop_more (outcome (Some c.loop-byte.cursor) c.loop-byte.laid) c.args.text.now c.loop-byte.byte-index 0 (omega arith) in
-    let r = c.in-err-cursor.ensures.reads (drop (c.loop-byte.byte-index + 1) c.args.text.now) in
+    let r = c.in_err-cursor.ensures.reads (drop (c.loop-byte.byte-index + 1) c.args.text.now) in
     record { laid = rw c.from-residual.ensures (cc) }
 
 pub loop-byte-preserved : goal.loop-byte-preserved
 loop-byte-preserved c =
     let e = at_drop_more (outcome (Some c.loop-byte.cursor) c.loop-byte.laid) c.args.text.now c.loop-byte.byte-index 0 (omega arith) in
-    let r = c.in-ok-cursor.ensures.reads (drop (c.loop-byte.byte-index + 1) c.args.text.now) in
+    let r = c.in_ok-cursor.ensures.reads (drop (c.loop-byte.byte-index + 1) c.args.text.now) in
     cc
 
 pub returns : goal.returns

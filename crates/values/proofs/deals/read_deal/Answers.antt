@@ -6,9 +6,9 @@ use Rattle.values.specs.Deals.{deal_read}
 use Rattle.values.proofs.Layouts.{deal_judged}
 use Rattle.values.proofs.deals.read_deal.Goals as goal
 
-pub returns-in-default : goal.returns-in-default
-returns-in-default c =
-    let e : deal_read (found c.args.tag) ≡ Err (MalformedDeal c.args.tag.line) = deal_judged (found c.args.tag) None c.in-default.ensures.laid in
+pub returns-in_default : goal.returns-in_default
+returns-in_default c =
+    let e : deal_read (found c.args.tag) ≡ Err (MalformedDeal c.args.tag.line) = deal_judged (found c.args.tag) None c.in_default.ensures.laid in
     record { answer = sym (ap done e); bytes = sym (ap (filled c.args.deal.now) e) }
 
 pub returns-then-repeated : goal.returns-then-repeated
@@ -16,12 +16,12 @@ returns-then-repeated c =
     let e : deal_read (found c.args.tag) ≡ Err (RepeatedCard c.args.tag.line) = deal_judged (found c.args.tag) _ c.in-Some.ensures.laid ∙ simp c.if-repeated.true in
     record { answer = sym (ap done e); bytes = sym (ap (filled c.args.deal.now) e) }
 
-pub returns-then-not-is-thirteen-each : goal.returns-then-not-is-thirteen-each
-returns-then-not-is-thirteen-each c =
-    let e : deal_read (found c.args.tag) ≡ Err (UnevenHands c.args.tag.line) = deal_judged (found c.args.tag) _ c.in-Some.ensures.laid ∙ simp (c.if-repeated.false, sym c.if-not-is-thirteen-each.ensures.each) in
+pub returns-then-not-is_thirteen_each : goal.returns-then-not-is_thirteen_each
+returns-then-not-is_thirteen_each c =
+    let e : deal_read (found c.args.tag) ≡ Err (UnevenHands c.args.tag.line) = deal_judged (found c.args.tag) _ c.in-Some.ensures.laid ∙ simp (c.if-repeated.false, sym c.if-not-is_thirteen_each.ensures.each) in
     record { answer = sym (ap done e); bytes = sym (ap (filled c.args.deal.now) e) }
 
 pub returns : goal.returns
 returns c =
-    let e : deal_read (found c.args.tag) ≡ Ok c.lay-out.new.laid = deal_judged (found c.args.tag) _ c.in-Some.ensures.laid ∙ simp (c.if-repeated.false, sym c.if-not-is-thirteen-each.ensures.each) in
+    let e : deal_read (found c.args.tag) ≡ Ok c.lay_out.new.laid = deal_judged (found c.args.tag) _ c.in-Some.ensures.laid ∙ simp (c.if-repeated.false, sym c.if-not-is_thirteen_each.ensures.each) in
     record { answer = sym (ap done e); bytes = sym (ap (filled c.args.deal.now) e) }

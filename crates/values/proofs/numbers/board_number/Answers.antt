@@ -5,8 +5,8 @@ use Rattle.std.proofs.lemmas.Bool.Decides.{nat_tests}
 use Rattle.values.specs.Numbers.{number_from}
 use Rattle.values.proofs.numbers.board_number.Goals as goal
 
-pub returns-then-not-is-digit : goal.returns-then-not-is-digit
-returns-then-not-is-digit c =
+pub returns-then-not-is_digit : goal.returns-then-not-is_digit
+returns-then-not-is_digit c =
     let e = at_drop_more (number_from c.loop-byte.number) c.args.value.now c.loop-byte.byte-index 0 (omega arith) in record { number = grind (arith, nat_tests) }
 
 pub loop-byte-preserved : goal.loop-byte-preserved

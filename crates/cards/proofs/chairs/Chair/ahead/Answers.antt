@@ -12,9 +12,9 @@ returns-in-1 c = record { chair = c.next.ensures.chair ∙ sym (ahead_like c.arg
 pub returns-in-2 : goal.returns-in-2
 returns-in-2 c = record { chair = c.partner.ensures.chair ∙ sym (ahead_like c.args.self c.args.places 2 (omega arith)); clockwise = clockwise }
 
-pub returns-in-default : goal.returns-in-default
-returns-in-default c =
+pub returns-in_default : goal.returns-in_default
+returns-in_default c =
     record {
-      chair = c.next-in-default.ensures.chair ∙ ap next c.partner-in-default.ensures.chair ∙ sym (ahead_like c.args.self c.args.places 3 (omega arith));
+      chair = c.next-in_default.ensures.chair ∙ ap next c.partner-in_default.ensures.chair ∙ sym (ahead_like c.args.self c.args.places 3 (omega arith));
       clockwise = clockwise;
     }

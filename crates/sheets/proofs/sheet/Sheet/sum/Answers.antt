@@ -9,7 +9,7 @@ pub loop-i-preserved : goal.loop-i-preserved
 loop-i-preserved g c =
     let s = c.args.self.now in
     let e = sum_more g.C.Comparison.compared (take s.used s.rows.now) c.loop-i.i in
-    let r = c.result-at-sum.ensures.result in
+    let r = c.result_at-sum.ensures.result in
     (refl, omega (arith, ints), omega (arith, ints))
 
 pub returns : goal.returns

@@ -8,7 +8,7 @@ pub returns : goal.returns
 returns t c =
     let n = c.args.number in
     elim c.if-number-ge10.branch [
-      | then-number-ge10 w ↦ record { wrote = told (sym (decimal_step n w.if-number-ge10.true (omega arith))) (then w.put-decimal.ensures.wrote (since w.self-is c.put.ensures.wrote)) }
+      | then-number-ge10 w ↦ record { wrote = told (sym (decimal_step n w.if-number-ge10.true (omega arith))) (then w.put_decimal.ensures.wrote (since w.self-is c.put.ensures.wrote)) }
       | else-number-ge10 w ↦
           let e : n % 10 ≡ n = omega (arith, w.if-number-ge10.false) in
           record { wrote = told (ap (λ d. (48 + d) ∷ []) e ∙ sym (decimal_digit n (omega (arith, w.if-number-ge10.false)))) (since w.self-is c.put.ensures.wrote) }
