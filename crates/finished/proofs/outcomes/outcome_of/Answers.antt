@@ -20,7 +20,7 @@ pub invariant_of-result : goal.invariant_of-result
 invariant_of-result c =
     let few : c.of-tricks.result.won ≤ 13 = omega (arith, c.of-tricks.ensures.few, c.requires) in
     let small = score_small c.in-Some.contract c.in_ok-declarer.declarer c.args.vulnerability c.of-tricks.result.won c.in_ok-score.score few c.in_ok-score.ensures.score in
-    (few, (subst (λ z. nat_abs z ≤ 7600) (sym (same c.in_ok-score.score small)) small, tt))
+    record { few = few; bounded = subst (λ z. nat_abs z ≤ 7600) (sym (same c.in_ok-score.score small)) small }
 
 pub returns : goal.returns
 returns c =
