@@ -10,7 +10,7 @@ returns-in_err-natural c =
     let some : 1 ≤ length w = search rules in
     let minus : get_or w 0 0 ≡ 45 = search rules in
     let e = minus_said w some minus ∙ ap (option_map (λ n. neg_ℤ (pos n))) (sym c.in_err-natural.ensures.number) in
-    record { number = c.from-residual.ensures ∙ sym e }
+    record { number = c.from_residual.ensures ∙ sym e }
 
 pub returns-in_ok-natural : goal.returns-in_ok-natural
 returns-in_ok-natural c =

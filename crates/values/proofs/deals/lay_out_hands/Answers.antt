@@ -7,7 +7,7 @@ pub returns-in_err-cursor : goal.returns-in_err-cursor
 returns-in_err-cursor c =
     let e = at_drop_more (outcome (Some c.loop-byte.cursor) c.loop-byte.laid) c.args.text.now c.loop-byte.byte-index 0 (omega arith) in
     let r = c.in_err-cursor.ensures.reads (drop (c.loop-byte.byte-index + 1) c.args.text.now) in
-    record { laid = rw c.from-residual.ensures (cc) }
+    record { laid = rw c.from_residual.ensures (cc) }
 
 pub loop-byte-preserved : goal.loop-byte-preserved
 loop-byte-preserved c =
