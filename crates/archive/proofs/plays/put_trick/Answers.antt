@@ -1,4 +1,5 @@
 use Rattle.std.proofs.Common.{[], ◌∷◌, ◌++◌, ap, ◌∙◌}
+use Rattle.cards.specs.declared.chairs.Chair.{Chair}
 use Rattle.cards.specs.Chairs.{next}
 use Rattle.std.proofs.lemmas.List.{append_assoc}
 use Rattle.text.proofs.Writes.{then, told}
@@ -8,7 +9,7 @@ use Rattle.archive.proofs.plays.put_trick.Goals as goal
 pub returns : goal.returns
 unfolding trick_columns
 returns c =
-    let card = λ x. card_text (card_by c.args.leader c.args.trick.now x) in
+    let card = λ (x : Chair). card_text (card_by c.args.leader c.args.trick.now x) in
     let second = c.next-second.ensures.chair in
     let third = c.next-third.ensures.chair ∙ ap next second in
     let fourth = c.next.ensures.chair ∙ ap next third in
