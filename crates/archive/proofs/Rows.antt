@@ -1,9 +1,9 @@
 -- Words put one behind another stand in rows of four.
-use Rattle.std.proofs.Common.{◌≡◌, ℕ, ◌+◌, ◌%◌, ◌<◌, true, false, eqb, List, [], ◌∷◌, ◌++◌, length, sym, refl, ap, ◌∙◌, arith}
+use Rattle.std.proofs.Common.{◌≡◌, ℕ, ◌+◌, ◌%◌, ◌<◌, List, [], ◌∷◌, length, refl, arith}
 use Rattle.std.proofs.lemmas.List.{append_assoc}
 use Rattle.std.proofs.lemmas.Bool.Decides.{nat_tests}
 use Rattle.writer.specs.Texts.{text}
-use Rattle.archive.specs.Records.{rows, spaced}
+use Rattle.archive.specs.Records.{rows}
 use Rattle.archive.specs.Words.{end_of_word, in_rows}
 
 ends_row : (i n : ℕ) → i % 4 ≡ 3 → end_of_word i n ≡ 10

@@ -1,5 +1,5 @@
 -- Signed numbers as text.
-use Rattle.std.proofs.Common.{◌≡◌, ℕ, true, false, ◌∷◌, ℤ, pos, negsuc, nat_abs, decimal, sym, refl, arith}
+use Rattle.std.proofs.Common.{◌≡◌, true, false, ◌∷◌, ℤ, pos, negsuc, nat_abs, decimal, sym, refl, arith}
 use lib.Signed.{lt_z}
 use Rattle.std.specs.Fmt.{signed_decimal}
 use Rattle.std.proofs.lemmas.Bool.{false≢true, ltb-true}

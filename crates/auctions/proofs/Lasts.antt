@@ -1,5 +1,5 @@
 -- The last call of a kind, and the first chair to name a denomination.
-use Rattle.std.proofs.Common.{◌≡◌, ℕ, zero, suc, ◌-◌, ◌%◌, ◌<◌, Bool, true, false, cond, List, [], ◌∷◌, length, IsSomeAnd, Some, None, Option, sym, refl, ap, ◌∙◌, subst, le_of_suc-le-suc, not-suc-le-zero, arith, MatchOption}
+use Rattle.std.proofs.Common.{◌≡◌, ℕ, zero, suc, ◌-◌, ◌%◌, ◌<◌, Bool, true, false, cond, List, [], ◌∷◌, length, IsSomeAnd, Some, None, Option, refl, le_of_suc-le-suc, not-suc-le-zero, arith, MatchOption}
 use Rattle.std.specs.Option.{option_or}
 use Rattle.std.proofs.lemmas.Bool.{and_from, and_parts, both_ways, eq-eqb}
 use Rattle.cards.specs.declared.chairs.Chair.{Chair}
@@ -9,7 +9,7 @@ use Rattle.cards.proofs.Ways.{by}
 use Rattle.auctions.specs.declared.Made.{Made}
 use Rattle.auctions.specs.Auctions.{last_bid, last_call, made}
 use Rattle.auctions.specs.Laws.{Declares, FirstAt, LastAt, LastOf, Lasts, Nowhere, call_at}
-use Rattle.auctions.specs.Outcomes.{declarer_by, declarer_of, first_to_name, names, same_denomination}
+use Rattle.auctions.specs.Outcomes.{declarer_by, first_to_name, names, same_denomination}
 
 module _ (p : ℕ → Bool) (d : Chair) (a : ℕ) (calls : List ℕ) where
   -- what stands one call further along

@@ -1,17 +1,17 @@
 -- How far a lawful auction can come, by any measure of its calls, and who doubled.
-use Rattle.std.proofs.Common.{◌≡◌, ℕ, zero, suc, ◌+◌, ◌-◌, ◌*◌, ◌%◌, ◌<◌, ◌≤◌, min, Bool, true, false, cond, not, ◌&&◌, eqb, leb, List, [], ◌∷◌, ◌++◌, length, replicate, Some, None, sum_by, Option, sym, refl, ap, ◌∙◌, subst, inl, inr, add-mul, one-mul, arith}
+use Rattle.std.proofs.Common.{◌≡◌, ℕ, zero, suc, ◌+◌, ◌-◌, ◌*◌, ◌%◌, ◌<◌, ◌≤◌, min, Bool, true, false, not, ◌&&◌, eqb, leb, List, [], ◌∷◌, ◌++◌, length, replicate, Some, None, sum_by, sym, refl, ap, ◌∙◌, subst, inl, inr, add-mul, one-mul, arith}
 use Rattle.std.proofs.lemmas.Nat.{mul-le}
 use Rattle.std.proofs.lemmas.List.{replicate_more}
 use Rattle.std.proofs.lemmas.List.Sums.{sum_by-cons, sum_by_push}
 use Rattle.std.proofs.lemmas.Bool.{and_parts, cases_lt, eq-eqb, eqb-false, eqb-true, false≢true, le-leb, leb-false, leb-true, ne_eqb, not-true}
 use Rattle.cards.specs.declared.chairs.Chair.{Chair}
 use Rattle.cards.specs.Calls.{is_bid}
-use Rattle.cards.specs.Chairs.{code, next, same_side}
+use Rattle.cards.specs.Chairs.{code, same_side}
 use Rattle.cards.proofs.Ways.{passes_question}
 use Rattle.scoring.specs.declared.contracts.Doubling.TheVariants.{Undoubled, Doubled, Redoubled}
 use Rattle.auctions.specs.declared.Made.{Made}
 use Rattle.auctions.specs.declared.Standing.{Standing}
-use Rattle.auctions.specs.Auctions.{by_opponent, call_ruling, called, enough, height, is_double, is_over, is_pass, last_action, last_bid, made, standing}
+use Rattle.auctions.specs.Auctions.{by_opponent, call_ruling, called, height, is_double, is_over, is_pass, last_bid, made, standing}
 use Rattle.auctions.specs.Laws.{AtMost319, DoubledByOpponents, Lawful, PassIsLawful}
 use Rattle.auctions.specs.Laws.Lawful.{none_yet, one_more}
 use Rattle.auctions.specs.Outcomes.{doubling_by}

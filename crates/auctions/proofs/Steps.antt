@@ -1,6 +1,5 @@
 -- Where an auction stands after one call more.
-use Rattle.std.proofs.Common.{◌≡◌, ℕ, suc, ◌+◌, min, Bool, true, false, cond, not, List, [], ◌∷◌, ◌++◌, reverse, length, Some, None, fold, Option, sym, refl, ap, ◌∙◌, arith}
-use Rattle.std.specs.Option.{option_or}
+use Rattle.std.proofs.Common.{◌≡◌, ℕ, ◌+◌, min, Bool, cond, not, List, [], ◌∷◌, ◌++◌, length, Some, fold, Option, sym, refl, ap, ◌∙◌, arith}
 use Rattle.std.specs.List.{suffix_len, prefix_len}
 use Rattle.std.proofs.lemmas.List.{append_assoc, append-nil, reverse-append}
 use Rattle.cards.specs.declared.chairs.Chair.{Chair}
@@ -10,7 +9,7 @@ use Rattle.cards.proofs.Turns.{ahead_push, clockwise}
 use Rattle.cards.proofs.Ways.{by}
 use Rattle.auctions.specs.declared.Made.{Made}
 use Rattle.auctions.specs.declared.Standing.{Standing}
-use Rattle.auctions.specs.Auctions.{called, is_pass, last_action, last_bid, last_call, made, standing, start}
+use Rattle.auctions.specs.Auctions.{called, is_pass, last_action, last_call, made, standing}
 use Rattle.auctions.specs.Laws.{Steps, Turns}
 
 pub last_more : (p : ℕ → Bool) (d : Chair) (calls : List ℕ) (a : ℕ) → last_call p d (calls ++ a ∷ []) ≡ cond (p a) (Some (made (ahead d (length calls)) a)) (last_call p d calls)

@@ -11,14 +11,13 @@
 --                                doubled last, and to a redoubled one a chair of that side redoubled last
 --     FirstAt bid d calls c k    c made the call k, a bid in the denomination of `bid` by the side that made it, and no call before k is one
 --     Declares                   the declarer is of the side that made the last bid, and first to name its denomination; none declares only if nobody bid
-use Rattle.std.specs.Prelude.{◌≡◌, ℕ, ◌+◌, ◌%◌, ◌<◌, ◌≤◌, Bool, true, false, not, List, [], ◌∷◌, ◌++◌, length, IsSomeAnd, Some, None, Option, MatchOption, slice_index}
+use Rattle.std.specs.Prelude.{◌≡◌, ℕ, ◌+◌, ◌%◌, ◌<◌, ◌≤◌, Bool, true, false, List, [], ◌∷◌, ◌++◌, length, IsSomeAnd, Some, None, Option, MatchOption, slice_index}
 use Rattle.cards.specs.declared.chairs.Chair.{Chair}
-use Rattle.cards.specs.Calls.{is_bid}
 use Rattle.cards.specs.Chairs.{ahead, code, same_side}
 use Rattle.scoring.specs.declared.contracts.Doubling.TheVariants.{Doubled, Redoubled}
 use Rattle.auctions.specs.declared.Made.{Made}
 use Rattle.auctions.specs.declared.Standing.{Standing}
-use Rattle.auctions.specs.Auctions.{call_ruling, called, is_over, is_pass, last_action, last_bid, last_call, standing, start}
+use Rattle.auctions.specs.Auctions.{call_ruling, called, is_over, last_action, last_bid, last_call, standing, start}
 use Rattle.auctions.specs.Outcomes.{declarer_of, doubling_by, names}
 
 abbrev pub Steps : Type 0

@@ -2,7 +2,7 @@
 use Rattle.std.proofs.Common.{◌≡◌, ℕ, zero, suc, ◌+◌, ◌%◌, List, [], ◌∷◌, ◌++◌, length, unwrap_or, sym, refl, ap, ◌∙◌, arith}
 use Rattle.cards.specs.declared.chairs.Chair.{Chair}
 use Rattle.cards.specs.declared.chairs.Chair.TheVariants.{North, East, South, West}
-use Rattle.cards.specs.Chairs.{Clockwise, ahead, code, next, partner, with_code}
+use Rattle.cards.specs.Chairs.{Clockwise, ahead, code, next, with_code}
 
 pub code_next : (c : Chair) → code (next c) ≡ (code c + 1) % 4
 code_next North = refl

@@ -1,5 +1,5 @@
 -- What a board came to, from its parts.
-use Rattle.std.proofs.Common.{◌≡◌, ℕ, ◌≤◌, true, false, leb, ℤ, nat_abs, Some, None, Option, unwrap_or, sym, refl, ap, ◌∙◌, subst, arith}
+use Rattle.std.proofs.Common.{◌≡◌, ℕ, ◌≤◌, leb, ℤ, nat_abs, Some, None, Option, unwrap_or, sym, ap, subst, arith}
 use Rattle.std.proofs.lemmas.Int.{ints}
 use Rattle.auctions.specs.Outcomes.{Terms, contract_of, terms}
 use Rattle.cards.specs.declared.boards.Vulnerability.{Vulnerability}

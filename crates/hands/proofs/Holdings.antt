@@ -1,11 +1,11 @@
 -- What a hand holds: what a deal gives it, and what is left of it when cards are gone.
-use Rattle.std.proofs.Common.{◌≡◌, ℕ, zero, suc, ◌+◌, ◌-◌, ◌*◌, ◌/◌, ◌%◌, ◌<◌, ◌≤◌, Bool, true, false, cond, not, ◌&&◌, ◌||◌, eqb, ◌≢◌, List, [], ◌∷◌, ◌++◌, length, get_or, Some, None, Option, sym, refl, ap, ◌∙◌, subst, inl, inr, le_of_suc-le-suc, not-suc-le-zero, arith}
+use Rattle.std.proofs.Common.{◌≡◌, ℕ, zero, suc, ◌+◌, ◌-◌, ◌*◌, ◌/◌, ◌%◌, ◌<◌, ◌≤◌, Bool, true, false, cond, not, ◌&&◌, eqb, ◌≢◌, List, [], ◌∷◌, ◌++◌, length, get_or, Some, None, Option, sym, refl, ap, ◌∙◌, subst, inl, inr, le_of_suc-le-suc, not-suc-le-zero, arith}
 use Rattle.std.proofs.lemmas.Bool.{and_parts, cases_eq, cond-false, cond-true, eqb-false, eqb-true, false≢true, not-true}
 use Rattle.cards.proofs.Ways.{by}
 use Rattle.cards.specs.Deals.{count}
 use Rattle.cards.specs.Hands.{dealt, holds}
 use Rattle.hands.specs.Hands.{lowest_from, none_from, remaining, without}
-use Rattle.hands.specs.Laws.{Deals, Found, Lowest, NoneBetween, Remains, is_among}
+use Rattle.hands.specs.Laws.{Deals, Found, Lowest, NoneBetween, Remains}
 
 -- the low bit and the rest of a number that is made of the two
 low : (q r : ℕ) → r < 2 → (q * 2 + r) % 2 ≡ r

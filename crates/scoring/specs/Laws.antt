@@ -2,7 +2,7 @@
 --     Worked             nine contracts with their scores
 --     Tens               every score is a multiple of 10 from -7,600 to 7,600
 --     Rises              more tricks never score less
-use Rattle.std.specs.Prelude.{◌≡◌, ℕ, ◌%◌, ◌≤◌, Bool, true, false, ℤ, pos, neg_ℤ, ◌≤ℤ◌, unsigned_abs}
+use Rattle.std.specs.Prelude.{◌≡◌, ℕ, ◌%◌, ◌≤◌, Bool, true, false, pos, neg_ℤ, ◌≤ℤ◌, unsigned_abs}
 use Rattle.cards.specs.declared.suits.Denomination.{Denomination}
 use Rattle.cards.specs.declared.suits.Denomination.TheVariants.{Trumps, NoTrump}
 use Rattle.cards.specs.declared.suits.Suit.TheVariants.{Clubs, Spades}

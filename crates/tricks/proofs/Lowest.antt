@@ -1,15 +1,15 @@
 -- The lowest legal card.
-use Rattle.std.proofs.Common.{◌≡◌, ℕ, suc, ◌+◌, ◌*◌, ◌/◌, ◌<◌, ◌≤◌, Bool, true, false, cond, not, ◌||◌, eqb, leb, IsSomeAnd, Some, None, Option, sym, refl, ap, ◌∙◌, subst, inl, inr, arith}
-use Rattle.std.proofs.lemmas.Bool.{both_ways, cond-false, cond-true, eq-eqb, eqb-true, false≢true, leb-false, lt-leb, not-false, or_cases, or_left, or_right}
+use Rattle.std.proofs.Common.{◌≡◌, ℕ, ◌*◌, ◌/◌, ◌<◌, true, false, not, leb, IsSomeAnd, Some, None, Option, sym, refl, subst, inl, inr, arith}
+use Rattle.std.proofs.lemmas.Bool.{both_ways, cond-false, cond-true, eq-eqb, eqb-true, leb-false, lt-leb, not-false, or_cases, or_left, or_right}
 use Rattle.cards.specs.declared.suits.Suit.{Suit}
 use Rattle.cards.specs.declared.suits.Suit.TheVariants.{Clubs, Diamonds, Hearts, Spades}
 use Rattle.cards.specs.Suits.{code}
 use Rattle.cards.proofs.Ways.{by, passes_question}
 use Rattle.cards.specs.Hands.{holds}
-use Rattle.hands.specs.Hands.{is_void, lowest, lowest_from, lowest_of}
+use Rattle.hands.specs.Hands.{is_void, lowest, lowest_of}
 use Rattle.hands.specs.Laws.{Found}
-use Rattle.hands.proofs.Holdings.{lowest_found, none_there, some_there}
-use Rattle.tricks.specs.Cards.{card_ruling, follows, is_of, lowest_legal}
+use Rattle.hands.proofs.Holdings.{lowest_found, some_there}
+use Rattle.tricks.specs.Cards.{card_ruling, follows, is_of}
 use Rattle.tricks.specs.Laws.{Legal}
 
 pub record LawfulCard (led : Option Suit) (h a : ℕ) : Type 0 where

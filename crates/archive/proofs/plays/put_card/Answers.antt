@@ -1,4 +1,4 @@
-use Rattle.std.proofs.Common.{ℕ, ◌%◌, [], ◌∷◌, sym, ap, ◌∙◌}
+use Rattle.std.proofs.Common.{ℕ, ◌%◌, [], ◌∷◌, ap, ◌∙◌}
 use Rattle.text.proofs.Writes.{nothing, then, told}
 use Rattle.archive.specs.Records.{of_suit}
 use Rattle.archive.proofs.plays.put_card.Goals as goal

@@ -1,7 +1,6 @@
-use Rattle.std.proofs.Common.{[], ◌∷◌, ◌++◌, ap, ◌∙◌}
+use Rattle.std.proofs.Common.{ap, ◌∙◌}
 use Rattle.cards.specs.declared.chairs.Chair.{Chair}
 use Rattle.cards.specs.Chairs.{next}
-use Rattle.std.proofs.lemmas.List.{append_assoc}
 use Rattle.text.proofs.Writes.{then, told}
 use Rattle.archive.specs.Records.{card_by, card_text, trick_columns}
 use Rattle.archive.proofs.plays.put_trick.Goals as goal

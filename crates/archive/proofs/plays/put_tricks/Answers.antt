@@ -1,4 +1,4 @@
-use Rattle.std.proofs.Common.{◌≡◌, ℕ, ◌+◌, ◌-◌, ◌*◌, ◌/◌, [], ◌∷◌, length, take, drop, sym, refl, ap, ◌∙◌, ap₂, add-one, arith}
+use Rattle.std.proofs.Common.{◌≡◌, ◌+◌, ◌-◌, ◌*◌, ◌/◌, [], ◌∷◌, length, take, drop, sym, refl, ap, ◌∙◌, ap₂, add-one, arith}
 use Rattle.text.proofs.Writes.{nothing, told}
 use Rattle.tricks.specs.Tricks.{leader, trick}
 use Rattle.tricks.proofs.Rounds.{leader_next}
