@@ -320,6 +320,7 @@ sameSide same_side
 sameSuit same_suit
 score-small score_small
 scoreAt score_at
+scoreOf score_of
 scoreFits score_fits
 scoreText score_text
 scored-as scored_as

@@ -5,8 +5,8 @@
 ghost use Rattle.std.specs.Prelude.{◌≡◌};
 ghost use Rattle.archive.specs.Writing.{number};
 
-mod lines;
 mod plays;
+mod sections;
 // pub mod records;
 
 // Why a record is not written.

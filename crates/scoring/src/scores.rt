@@ -1,7 +1,7 @@
 // The score of a contract, from bid points, premiums and penalties.
 ghost use Rattle.std.specs.Prelude.{◌≡◌, ◌<◌, ◌≤◌, MatchOption, unsigned_abs};
 ghost use Rattle.scoring.specs.Laws.{Worked, Tens, Rises};
-ghost use Rattle.scoring.specs.Scores.{trick_points, bid_points, game_premium, slam_premium, insult, overtrick, doubled_down, undertricks, made_points, score as scoreOf, scored, is_vulnerable, scored_ns};
+ghost use Rattle.scoring.specs.Scores.{trick_points, bid_points, game_premium, slam_premium, insult, overtrick, doubled_down, undertricks, made_points, score as score_of, scored, is_vulnerable, scored_ns};
 
 use crate::contracts::{Contract, Doubling};
 use cards::boards::Vulnerability;
@@ -125,7 +125,7 @@ fn made_points(contract: Contract, vulnerable: bool, over: u32) -> u32
 
 fn points(contract: Contract, vulnerable: bool, tricks: u8) -> i32
     requires { tricks ≤ 13 }
-    ensures score { result ≡ scoreOf contract.level contract.denomination contract.doubling vulnerable tricks }
+    ensures score { result ≡ score_of contract.level contract.denomination contract.doubling vulnerable tricks }
     ensures bounded { unsigned_abs result ≤ 7600 }
 {
     let needed = contract.level + 6;

@@ -70,7 +70,7 @@ impl Cursor {
 
     // Lays out a card of the suit.
     fn lay(self, byte: u8, laid: &mut [u8; 52]) -> Option<Cursor>
-        requires { ((byte ≢ 32)) × ((byte ≢ 46)) }
+        requires { (byte ≢ 32) × (byte ≢ 46) }
         ensures reads { (text : List ℕ) → outcome result laid.new text ≡ outcome (Some self) laid.old (byte ∷ text) }
     {
         let card = card_named(self.suit, byte as char)? as usize;

@@ -1,6 +1,6 @@
 use Rattle.std.proofs.Common.{◌∙◌}
 use Rattle.text.proofs.Writes.{then, told}
-use Rattle.archive.proofs.lines.put_contract.Goals as goal
+use Rattle.archive.proofs.sections.put_contract.Goals as goal
 
 pub returns : goal.returns
 returns c = record { wrote = then c.put.ensures.wrote (then (told (c.as_bytes.ensures.value ∙ c.denomination_text.ensures.text) c.put_all.ensures.wrote) c.put_doubling.ensures.wrote) }

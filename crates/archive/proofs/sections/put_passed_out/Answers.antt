@@ -1,7 +1,7 @@
 use Rattle.std.proofs.Common.{[], ◌∷◌, codes}
 use Rattle.writer.specs.Texts.{tag_line}
 use Rattle.writer.proofs.Lines.{more_lines}
-use Rattle.archive.proofs.lines.put_passed_out.Goals as goal
+use Rattle.archive.proofs.sections.put_passed_out.Goals as goal
 
 pub returns : goal.returns
 returns c =

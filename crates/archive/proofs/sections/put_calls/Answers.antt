@@ -4,7 +4,7 @@ use Rattle.notation.specs.Notation.{call_text}
 use Rattle.text.proofs.Writes.{nothing, then, told}
 use Rattle.archive.specs.Words.{end_of_word, in_rows}
 use Rattle.archive.proofs.Rows.{rows_text}
-use Rattle.archive.proofs.lines.put_calls.Goals as goal
+use Rattle.archive.proofs.sections.put_calls.Goals as goal
 
 pub loop-i-init : goal.loop-i-init
 loop-i-init c = ([], nothing _, refl)

@@ -5,7 +5,7 @@ use Rattle.values.specs.Letters.{chair_letter}
 use Rattle.writer.specs.Texts.{tag_line, text}
 use Rattle.writer.proofs.Lines.{more_lines}
 use Rattle.archive.specs.Records.{rows}
-use Rattle.archive.proofs.lines.put_auction.Goals as goal
+use Rattle.archive.proofs.sections.put_auction.Goals as goal
 
 pub returns : goal.returns
 returns c =

@@ -2,7 +2,7 @@ use Rattle.std.proofs.Common.{◌≡◌, ℕ, List, ◌++◌, map, length, drop}
 use Rattle.notation.specs.Notation.{call_text}
 use Rattle.text.specs.Pages.{Wrote}
 use Rattle.archive.specs.Words.{in_rows}
-use Rattle.archive.proofs.lines.put_calls.Given as goal
+use Rattle.archive.proofs.sections.put_calls.Given as goal
 
 -- the calls before i are on the page
 abbrev pub invariant-loop-i : goal.invariant-loop-i

@@ -8,7 +8,7 @@ use Rattle.values.specs.Letters.{chair_letter}
 use Rattle.writer.specs.Texts.{tag_line, text}
 use Rattle.writer.proofs.Lines.{more_lines, tag_put}
 use Rattle.archive.specs.Records.{score_text, terms_text}
-use Rattle.archive.proofs.lines.put_outcome.Goals as goal
+use Rattle.archive.proofs.sections.put_outcome.Goals as goal
 
 pub returns : goal.returns
 returns c =

@@ -3,8 +3,8 @@ use lib.Signed.{lt_z}
 use Rattle.std.proofs.lemmas.Int.{ints}
 use Rattle.text.proofs.Writes.{since, then, told}
 use Rattle.archive.proofs.Signs.{signed_above, signed_below}
-use Rattle.archive.proofs.lines.put_signed.Goals as goal
-use Rattle.archive.proofs.lines.put_signed.Goals.{then-number-lt0, else-number-lt0}
+use Rattle.archive.proofs.sections.put_signed.Goals as goal
+use Rattle.archive.proofs.sections.put_signed.Goals.{then-number-lt0, else-number-lt0}
 
 pub returns : goal.returns
 returns c =
