@@ -1,8 +1,8 @@
 -- A finished board, as it is handed on to be scored and recorded.
---     board_as n d calls cards    the board of a number, with its dealer and vulnerability, a deal, calls and cards
---     are_below m xs              each of the numbers xs is below m
---     has_all_cards b             all 52 cards are played, or none on a board with no bid
---     isComplete b                a numbered board with a lawful deal and the dealer and vulnerability of its number, with calls that end
+--     board_as n d calls cards   the board of a number, with its dealer and vulnerability, a deal, calls and cards
+--     are_below m xs             each of the numbers xs is below m
+--     has_all_cards b            all 52 cards are played, or none on a board with no bid
+--     is_complete b              a numbered board with a lawful deal and the dealer and vulnerability of its number, with calls that end
 --                                the auction, at most 319, and with all its cards
 use Rattle.std.specs.Prelude.{ℕ, Bool, true, cond, ◌&&◌, List, [], ◌∷◌, length, is_some, ◌==◌, nat_le, nat_lt}
 use Rattle.cards.specs.declared.boards.Vulnerability.{Vulnerability}
