@@ -7,7 +7,6 @@ ghost use Rattle.archive.specs.Writing.{number};
 
 mod plays;
 mod sections;
-// pub mod records;
 
 // Why a record is not written.
 #[derive(Clone, Copy, Debug, PartialEq)]
