@@ -1,5 +1,6 @@
 -- What holds of a lawful board, act by act.
-use Rattle.std.proofs.Common.{◌≡◌, ℕ, zero, suc, ◌+◌, ◌*◌, ◌/◌, ◌%◌, ◌<◌, ◌≤◌, Bool, true, false, cond, not, ◌&&◌, eqb, List, [], ◌∷◌, length, get_or, IsSomeAnd, Some, None, Option, sym, refl, ap, ◌∙◌, subst, ap₂, inl, inr, le_of_suc-le-suc, not-suc-le-zero, arith}
+use Rattle.std.proofs.Common.{◌≡◌, ℕ, zero, suc, ◌+◌, ◌*◌, ◌/◌, ◌%◌, ◌<◌, ◌≤◌, Bool, true, false, cond, not, ◌&&◌, eqb}
+use Rattle.std.proofs.Common.{List, [], ◌∷◌, length, get_or, IsSomeAnd, Some, None, Option, sym, refl, ap, ◌∙◌, subst, ap₂, inl, inr, le_of_suc-le-suc, not-suc-le-zero, arith}
 use Rattle.std.proofs.lemmas.List.{get_or_append_left, get_or_push, length_push, take-append-le, take_at}
 use Rattle.std.proofs.lemmas.Bool.{and_parts, both_ways, cases_lt, cond-false, cond-true, eq-eqb, eqb-false, eqb-true, false≢true, leb-false, ne_eqb, not-true, or_cases, or_left, or_right}
 use Rattle.auctions.specs.Laws as auction
@@ -236,7 +237,9 @@ each_card_once b l x h =
       (
         holder.0,
         remains (dealt b.deal (code holder.0)) b.cards x ∙ rw (e, dealt_there b.deal (code holder.0) x in_deal, eq-eqb _ _ (sym holder.1)) refl,
-        λ c p. same_code c holder.0 (sym (eqb-true (get_or b.deal x 0) (code c) (sym (dealt_there b.deal (code c) x in_deal) ∙ (and_parts (holds (dealt b.deal (code c)) x) _ (sym (remains (dealt b.deal (code c)) b.cards x) ∙ p)).0)) ∙ sym holder.1),
+        λ c p.
+            let was = and_parts (holds (dealt b.deal (code c)) x) _ (sym (remains (dealt b.deal (code c)) b.cards x) ∙ p) in
+            same_code c holder.0 (sym (eqb-true (get_or b.deal x 0) (code c) (sym (dealt_there b.deal (code c) x in_deal) ∙ was.0)) ∙ sym holder.1),
       ),
     ))
   where

@@ -26,7 +26,8 @@ on_page ls empty p q short =
     (then p q).text ∙ ap (λ w. kept (w ++ (text ls ++ (10 ∷ [])))) empty ∙ kept_whole (text ls ++ (10 ∷ [])) few ∙ sym (text_both ls ([] ∷ []))
 
 module _ (file : List ℕ) {a b c : Page} (empty : written a ≡ []) where
-  pub game_replied : (n : ℕ) (old d : List ℕ) → Ok n ≡ number_in (file_read file) → d ≡ deal_in old (file_read file) → Wrote (text (game_lines n d)) a b → Wrote (10 ∷ []) b c → length (text (game_lines n d)) ≤ 400 → written c ≡ reply_to file
+  pub game_replied : (n : ℕ) (old d : List ℕ) → Ok n ≡ number_in (file_read file) → d ≡ deal_in old (file_read file)
+      → Wrote (text (game_lines n d)) a b → Wrote (10 ∷ []) b c → length (text (game_lines n d)) ≤ 400 → written c ≡ reply_to file
   unfolding reply_to
   game_replied n old d e f p q short = on_page (game_lines n d) empty p q short ∙ ap (λ ls. text (ls ++ ([] ∷ []))) (game_lines_read (file_read file) n old d e f)
 

@@ -13,7 +13,10 @@ pub returns-then-holds : goal.returns-then-holds
 returns-then-holds c = record { card = sym (c.loop-i.invariant ∙ lowest_here c.args.hand (c.args.first + c.loop-i.i) (c.args.cards - c.loop-i.i) (omega arith) (sym c.holds.ensures.holds ∙ c.if-holds.true)) }
 
 pub loop-i-preserved : goal.loop-i-preserved
-loop-i-preserved c = c.loop-i.invariant ∙ lowest_later c.args.hand (c.args.first + c.loop-i.i) (c.args.cards - c.loop-i.i) (c.args.cards - (c.loop-i.i + 1)) (c.args.first + (c.loop-i.i + 1)) (omega arith) (omega arith) (sym c.holds.ensures.holds ∙ c.if-holds.false)
+loop-i-preserved c =
+    let i = c.loop-i.i in
+    let void = sym c.holds.ensures.holds ∙ c.if-holds.false in
+    c.loop-i.invariant ∙ lowest_later c.args.hand (c.args.first + i) (c.args.cards - i) (c.args.cards - (i + 1)) (c.args.first + (i + 1)) (omega arith) (omega arith) void
 
 pub returns : goal.returns
 returns c = record { card = sym (c.loop-i.invariant ∙ lowest_none c.args.hand (c.args.first + c.loop-i.i) (c.args.cards - c.loop-i.i) (omega arith)) }
