@@ -1,6 +1,7 @@
 pub mod Boards
 pub mod Calls
 pub mod Chairs
+pub mod Codes
 pub mod Deals
 pub mod Hands
 pub mod Pack

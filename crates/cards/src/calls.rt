@@ -1,6 +1,6 @@
 // Calls, each a byte: Pass, Double, Redouble, and the 35 bids in rising order.
 ghost use Rattle.std.specs.Prelude.{◌≡◌};
-ghost use Rattle.cards.specs.Calls.{bid_of, level_of, denomination_of};
+ghost use Rattle.cards.specs.Calls.{bid_of, is_bid, level_of, denomination_of};
 
 use crate::suits::Denomination;
 
@@ -10,21 +10,28 @@ pub const DOUBLE: u8 = 1;
 
 pub const REDOUBLE: u8 = 2;
 
+// Is the call a bid?
+pub fn is_bid(call: u8) -> bool
+    ensures bid { result ≡ is_bid call }
+{
+    (3..=37).contains(&call)
+}
+
 // The bid of a level, 1 to 7, and a denomination.
 pub fn bid(level: u8, denomination: Denomination) -> Option<u8>
     ensures bid { result ≡ bid_of level denomination }
 {
-    if level < 1 || level > 7 {
+    if !(1..=7).contains(&level) {
         return None;
     }
-    Some(3 + 5 * (level - 1) + denomination.code())
+    Some(3 + 5 * (level - 1) + u8::from(denomination))
 }
 
 // The level of a call that is a bid.
 pub fn level(call: u8) -> Option<u8>
     ensures level { result ≡ level_of call }
 {
-    if call < 3 || call > 37 {
+    if !is_bid(call) {
         return None;
     }
     Some((call - 3) / 5 + 1)
@@ -34,8 +41,8 @@ pub fn level(call: u8) -> Option<u8>
 pub fn denomination(call: u8) -> Option<Denomination>
     ensures denomination { result ≡ denomination_of call }
 {
-    if call < 3 || call > 37 {
+    if !is_bid(call) {
         return None;
     }
-    Denomination::from_code((call - 3) % 5)
+    Denomination::try_from((call - 3) % 5).ok()
 }

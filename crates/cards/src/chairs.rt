@@ -1,8 +1,11 @@
 // The four chairs of a table, clockwise.
-ghost use Rattle.std.specs.Prelude.{◌≡◌, ◌+◌, ◌%◌, ◌<◌};
+ghost use Rattle.std.specs.Prelude.{◌≡◌, ◌+◌, ◌%◌, ◌<◌, ok_or};
 ghost use Rattle.cards.specs.Chairs.{Clockwise, ahead, code, next, partner, same_side, with_code};
+ghost use Rattle.cards.specs.Codes.{unknown};
 
-#[derive(Clone, Copy, Debug, PartialEq)]
+use crate::codes::UnknownCode;
+
+#[derive(Clone, Copy, Debug, PartialEq, Eq)]
 pub enum Chair {
     North,
     East,
@@ -10,33 +13,38 @@ pub enum Chair {
     West,
 }
 
-impl Chair {
-    // The chair's number, 0 to 3.
-    pub fn code(self) -> u8
-        ensures code { result ≡ code self }
-        ensures small { result < 4 }
-    {
-        match self {
+// The chair's number, 0 to 3.
+impl From<Chair> for u8 {
+    ghost from_gives = { λ chair n. (n ≡ code chair) × (n < 4) };
+
+    fn from(chair: Chair) -> u8 {
+        match chair {
             Chair::North => 0,
             Chair::East => 1,
             Chair::South => 2,
             Chair::West => 3,
         }
     }
+}
 
-    // The chair of a number, if it has one.
-    pub fn from_code(code: u8) -> Option<Chair>
-        ensures chair { result ≡ with_code code }
-    {
+// The chair of a number, if it has one.
+impl TryFrom<u8> for Chair {
+    type Error = UnknownCode;
+
+    ghost try_from_gives = { λ n chair. chair ≡ ok_or (with_code n) (unknown n) };
+
+    fn try_from(code: u8) -> Result<Chair, UnknownCode> {
         match code {
-            0 => Some(Chair::North),
-            1 => Some(Chair::East),
-            2 => Some(Chair::South),
-            3 => Some(Chair::West),
-            _ => None,
+            0 => Ok(Chair::North),
+            1 => Ok(Chair::East),
+            2 => Ok(Chair::South),
+            3 => Ok(Chair::West),
+            _ => Err(UnknownCode(code)),
         }
     }
+}
 
+impl Chair {
     // The next chair clockwise.
     pub fn next(self) -> Chair
         ensures chair { result ≡ next self }
@@ -57,6 +65,7 @@ impl Chair {
     {
         self.next().next()
     }
+
     // The chair so many places further clockwise.
     pub fn ahead(self, places: usize) -> Chair
         ensures chair { result ≡ ahead self places }
@@ -74,6 +83,6 @@ impl Chair {
     pub fn same_side(self, other: Chair) -> bool
         ensures side { result ≡ same_side self other }
     {
-        self.code() % 2 == other.code() % 2
+        u8::from(self) % 2 == u8::from(other) % 2
     }
 }

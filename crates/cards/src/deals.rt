@@ -5,23 +5,12 @@ ghost use Rattle.cards.specs.Deals.{count, thirteen_each};
 
 use crate::chairs::Chair;
 
-fn count_to(deal: &[u8; 52], to: u8) -> usize
-    ensures count { result ≡ count to deal.now }
-{
-    let mut cards = 0;
-    for receiver in deal {
-        if *receiver == to {
-            cards += 1;
-        }
-    }
-    cards
-}
-
 // How many cards a chair gets.
 pub fn count(deal: &[u8; 52], chair: Chair) -> usize
     ensures count { result ≡ count (code chair) deal.now }
 {
-    count_to(deal, chair.code())
+    let code = u8::from(chair);
+    deal.iter().filter(|receiver| **receiver == code).count()
 }
 
 // Does each chair get 13 cards?

@@ -14,22 +14,14 @@ pub fn holds(hand: u64, card: u8) -> bool
     card < BITS && (hand >> card) & 1 == 1
 }
 
-fn dealt_to(deal: &[u8; 52], to: u8) -> u64
-    ensures hand { result ≡ dealt deal.now to }
-{
-    let mut hand: u64 = 0;
-    for card in (0..52usize).rev() {
-        hand *= 2;
-        if deal[card] == to {
-            hand += 1;
-        }
-    }
-    hand
-}
-
 // The hand that a deal gives a chair: byte c of the deal names the chair that gets the card c.
 pub fn dealt(deal: &[u8; 52], chair: Chair) -> u64
     ensures hand { result ≡ dealt deal.now (code chair) }
 {
-    dealt_to(deal, chair.code())
+    let code = u8::from(chair);
+    let mut hand = 0;
+    for receiver in deal.iter().rev() {
+        hand = 2 * hand + u64::from(*receiver == code);
+    }
+    hand
 }

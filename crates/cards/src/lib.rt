@@ -5,6 +5,7 @@
 pub mod boards;
 pub mod calls;
 pub mod chairs;
+pub mod codes;
 pub mod deals;
 pub mod hands;
 pub mod pack;

@@ -11,14 +11,14 @@ pub fn card(suit: Suit, rank: u8) -> Option<u8>
     if rank > 12 {
         return None;
     }
-    Some(13 * suit.code() + rank)
+    Some(13 * u8::from(suit) + rank)
 }
 
 // The suit of a card; no card is above 51.
 pub fn suit(card: u8) -> Option<Suit>
     ensures suit { result ≡ suit_of card }
 {
-    Suit::from_code(card / 13)
+    Suit::try_from(card / 13).ok()
 }
 
 // The rank of a card; no card is above 51.
