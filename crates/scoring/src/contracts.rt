@@ -5,7 +5,7 @@ use cards::suits::Denomination;
 
 pub mod made;
 
-#[derive(Clone, Copy)]
+#[derive(Clone, Copy, Debug, PartialEq, Eq)]
 pub enum Doubling {
     Undoubled,
     Doubled,

@@ -27,7 +27,7 @@ fn bid_points(contract: Contract) -> u32
         Denomination::NoTrump => 10,
         _ => 0,
     };
-    let points = contract.level as u32 * trick_points(contract.denomination) + first;
+    let points = u32::from(contract.level) * trick_points(contract.denomination) + first;
     match contract.doubling {
         Doubling::Undoubled => points,
         Doubling::Doubled => 2 * points,
@@ -130,9 +130,9 @@ fn points(contract: Contract, vulnerable: bool, tricks: u8) -> i32
 {
     let needed = contract.level + 6;
     if tricks >= needed {
-        made_points(contract, vulnerable, (tricks - needed) as u32) as i32
+        made_points(contract, vulnerable, u32::from(tricks - needed)) as i32
     } else {
-        -(undertricks(contract.doubling, vulnerable, (needed - tricks) as u32) as i32)
+        -(undertricks(contract.doubling, vulnerable, u32::from(needed - tricks)) as i32)
     }
 }
 

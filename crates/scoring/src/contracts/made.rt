@@ -1,31 +1,37 @@
 // How a contract is made, and how its doubling is told.
-ghost use Rattle.std.specs.Prelude.{◌≡◌};
+ghost use Rattle.std.specs.Prelude.{◌≡◌, ok_or};
+ghost use Rattle.cards.specs.Codes.{unknown};
 ghost use Rattle.scoring.specs.Doublings.{code, made, with_code};
 
 use crate::contracts::{Contract, Doubling};
+use cards::codes::UnknownCode;
 use cards::suits::Denomination;
 
-impl Doubling {
-    // The number of a doubling: 0, 1 if doubled, 2 if redoubled.
-    pub fn code(self) -> u8
-        ensures code { result ≡ code self }
-    {
-        match self {
+// The number of a doubling: 0, 1 if doubled, 2 if redoubled.
+impl From<Doubling> for u8 {
+    ghost from_gives = { λ doubling n. n ≡ code doubling };
+
+    fn from(doubling: Doubling) -> u8 {
+        match doubling {
             Doubling::Undoubled => 0,
             Doubling::Doubled => 1,
             Doubling::Redoubled => 2,
         }
     }
+}
 
-    // The doubling of a number, if it has one.
-    pub fn from_code(code: u8) -> Option<Doubling>
-        ensures doubling { result ≡ with_code code }
-    {
+// The doubling of a number, if it has one.
+impl TryFrom<u8> for Doubling {
+    type Error = UnknownCode;
+
+    ghost try_from_gives = { λ n doubling. doubling ≡ ok_or (with_code n) (unknown n) };
+
+    fn try_from(code: u8) -> Result<Doubling, UnknownCode> {
         match code {
-            0 => Some(Doubling::Undoubled),
-            1 => Some(Doubling::Doubled),
-            2 => Some(Doubling::Redoubled),
-            _ => None,
+            0 => Ok(Doubling::Undoubled),
+            1 => Ok(Doubling::Doubled),
+            2 => Ok(Doubling::Redoubled),
+            _ => Err(UnknownCode(code)),
         }
     }
 }
@@ -35,7 +41,7 @@ impl Contract {
     pub fn new(level: u8, denomination: Denomination, doubling: Doubling) -> Option<Contract>
         ensures contract { made result level denomination doubling }
     {
-        if level < 1 || level > 7 {
+        if !(1..=7).contains(&level) {
             return None;
         }
         Some(Contract {
