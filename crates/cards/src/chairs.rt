@@ -83,6 +83,6 @@ impl Chair {
     pub fn same_side(self, other: Chair) -> bool
         ensures side { result ≡ same_side self other }
     {
-        u8::from(self) % 2 == u8::from(other) % 2
+        self == other || self == other.partner()
     }
 }

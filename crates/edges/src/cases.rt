@@ -1,8 +1,8 @@
 // The cases: each a file, and what the rules fix for it.
 
-// What a file answers: the layer, number and offset of its fault, or 0, its board number and the
-// chair that gets the ace of spades.
-pub type Told = (u8, u8, usize);
+// What a file answers: its board number and the chair that gets the ace of spades, or the layer,
+// number and offset of its fault.
+pub type Told = Result<(u8, u8), (u8, u8, usize)>;
 
 // A file in five parts, and what it answers.
 #[derive(Clone, Copy)]
@@ -31,7 +31,7 @@ pub const LAWFUL: Case = Case {
     vulnerable: VULNERABLE,
     deal: DEAL,
     more: b"",
-    told: (0, 1, 0),
+    told: Ok((1, 0)),
 };
 
 // Lines: their ends and their bytes.
@@ -51,17 +51,17 @@ pub const LINES: [Case; 9] = [
     },
     Case {
         more: b"a\rb\n",
-        told: (1, 22, 124),
+        told: Err((1, 22, 124)),
         ..LAWFUL
     },
     Case {
         more: b"a\r",
-        told: (1, 22, 124),
+        told: Err((1, 22, 124)),
         ..LAWFUL
     },
     Case {
         more: b"\x1f\n",
-        told: (1, 22, 124),
+        told: Err((1, 22, 124)),
         ..LAWFUL
     },
     Case {
@@ -74,7 +74,7 @@ pub const LINES: [Case; 9] = [
     },
     Case {
         more: b"%\n\x7f\n",
-        told: (1, 22, 126),
+        told: Err((1, 22, 126)),
         ..LAWFUL
     },
 ];
@@ -87,27 +87,27 @@ pub const TAGS: [Case; 12] = [
     },
     Case {
         more: b"[aaaaaaaaaaaaaaaaaaaaaaaaaaaaaaaa \"x\"]\n",
-        told: (2, 24, 124),
+        told: Err((2, 24, 124)),
         ..LAWFUL
     },
     Case {
         more: b"[ \"x\"]\n",
-        told: (2, 24, 124),
+        told: Err((2, 24, 124)),
         ..LAWFUL
     },
     Case {
         more: b"[Event  \"x\"]\n",
-        told: (2, 24, 124),
+        told: Err((2, 24, 124)),
         ..LAWFUL
     },
     Case {
         more: b"[Event \"x\"\"]\n",
-        told: (2, 24, 124),
+        told: Err((2, 24, 124)),
         ..LAWFUL
     },
     Case {
         more: b"[Event \"x\"] \n",
-        told: (2, 24, 124),
+        told: Err((2, 24, 124)),
         ..LAWFUL
     },
     Case {
@@ -120,12 +120,12 @@ pub const TAGS: [Case; 12] = [
     },
     Case {
         board: b"",
-        told: (2, 25, 0),
+        told: Err((2, 25, 0)),
         ..LAWFUL
     },
     Case {
         more: b"[Vulnerable \"None\"]\n",
-        told: (2, 25, 0),
+        told: Err((2, 25, 0)),
         ..LAWFUL
     },
     Case {
@@ -133,7 +133,7 @@ pub const TAGS: [Case; 12] = [
         dealer: b"",
         vulnerable: b"",
         deal: b"",
-        told: (2, 25, 0),
+        told: Err((2, 25, 0)),
         ..LAWFUL
     },
     Case {
@@ -149,60 +149,60 @@ pub const TAGS: [Case; 12] = [
 pub const NUMBERS: [Case; 11] = [
     Case {
         board: b"[Board \"0\"]\n",
-        told: (3, 26, 0),
+        told: Err((3, 26, 0)),
         ..LAWFUL
     },
     Case {
         board: b"[Board \"01\"]\n",
-        told: (3, 26, 0),
+        told: Err((3, 26, 0)),
         ..LAWFUL
     },
     Case {
         board: b"[Board \"\"]\n",
-        told: (3, 26, 0),
+        told: Err((3, 26, 0)),
         ..LAWFUL
     },
     Case {
         board: b"[Board \"1a\"]\n",
-        told: (3, 26, 0),
+        told: Err((3, 26, 0)),
         ..LAWFUL
     },
     Case {
         board: b"[Board \"256\"]\n",
-        told: (3, 26, 0),
+        told: Err((3, 26, 0)),
         ..LAWFUL
     },
     Case {
         board: b"[Board \"255\"]\n",
         dealer: b"[Dealer \"S\"]\n",
         vulnerable: b"[Vulnerable \"NS\"]\n",
-        told: (0, 255, 0),
+        told: Ok((255, 0)),
         ..LAWFUL
     },
     Case {
         dealer: b"[Dealer \"E\"]\n",
-        told: (3, 27, 12),
+        told: Err((3, 27, 12)),
         ..LAWFUL
     },
     Case {
         dealer: b"[Dealer \"n\"]\n",
-        told: (3, 27, 12),
+        told: Err((3, 27, 12)),
         ..LAWFUL
     },
     Case {
         vulnerable: b"[Vulnerable \"All\"]\n",
-        told: (3, 27, 25),
+        told: Err((3, 27, 25)),
         ..LAWFUL
     },
     Case {
         vulnerable: b"[Vulnerable \"Love\"]\n",
-        told: (3, 27, 25),
+        told: Err((3, 27, 25)),
         ..LAWFUL
     },
     Case {
         dealer: b"[Vulnerable \"NS\"]\n",
         vulnerable: b"[Dealer \"W\"]\n",
-        told: (3, 27, 30),
+        told: Err((3, 27, 30)),
         ..LAWFUL
     },
 ];
@@ -211,72 +211,72 @@ pub const NUMBERS: [Case; 11] = [
 pub const DEALS: [Case; 14] = [
     Case {
         deal: b"[Deal \"E:AKQJT98765432... .AKQJT98765432.. ..AKQJT98765432. ...AKQJT98765432\"]\n",
-        told: (0, 1, 1),
+        told: Ok((1, 1)),
         ..LAWFUL
     },
     Case {
         deal: b"[Deal \"S:AKQJT98765432... .AKQJT98765432.. ..AKQJT98765432. ...AKQJT98765432\"]\n",
-        told: (0, 1, 2),
+        told: Ok((1, 2)),
         ..LAWFUL
     },
     Case {
         deal: b"[Deal \"W:AKQJT98765432... .AKQJT98765432.. ..AKQJT98765432. ...AKQJT98765432\"]\n",
-        told: (0, 1, 3),
+        told: Ok((1, 3)),
         ..LAWFUL
     },
     Case {
         deal: b"[Deal \"N:.63.AKQ987.A9732 J8654.KQ5.T.QJT6 A973.J98742.3.K4 KQT2.AT.J6542.85\"]\n",
-        told: (0, 1, 2),
+        told: Ok((1, 2)),
         ..LAWFUL
     },
     Case {
         deal: b"[Deal \"\"]\n",
-        told: (3, 28, 45),
+        told: Err((3, 28, 45)),
         ..LAWFUL
     },
     Case {
         deal: b"[Deal \"X:AKQJT98765432... .AKQJT98765432.. ..AKQJT98765432. ...AKQJT98765432\"]\n",
-        told: (3, 28, 45),
+        told: Err((3, 28, 45)),
         ..LAWFUL
     },
     Case {
         deal: b"[Deal \"N AKQJT98765432... .AKQJT98765432.. ..AKQJT98765432. ...AKQJT98765432\"]\n",
-        told: (3, 28, 45),
+        told: Err((3, 28, 45)),
         ..LAWFUL
     },
     Case {
         deal: b"[Deal \"N:AKQJT98765432... .AKQJT98765432.. ..AKQJT98765432.\"]\n",
-        told: (3, 28, 45),
+        told: Err((3, 28, 45)),
         ..LAWFUL
     },
     Case {
         deal: b"[Deal \"N:AKQJT98765432... .AKQJT98765432.. ..AKQJT98765432. ...AKQJT98765432 \"]\n",
-        told: (3, 28, 45),
+        told: Err((3, 28, 45)),
         ..LAWFUL
     },
     Case {
         deal: b"[Deal \"N:AKQJT98765432... .AKQJT98765432.. ..AKQJT98765432. ...AKQJT9876543x\"]\n",
-        told: (3, 28, 45),
+        told: Err((3, 28, 45)),
         ..LAWFUL
     },
     Case {
         deal: b"[Deal \"N:AKQJT98765432.... .AKQJT98765432.. ..AKQJT98765432. ...AKQJT98765432\"]\n",
-        told: (3, 28, 45),
+        told: Err((3, 28, 45)),
         ..LAWFUL
     },
     Case {
         deal: b"[Deal \"N:AAQJT98765432... .AKQJT98765432.. ..AKQJT98765432. ...AKQJT98765432\"]\n",
-        told: (3, 29, 45),
+        told: Err((3, 29, 45)),
         ..LAWFUL
     },
     Case {
         deal: b"[Deal \"N:AKQJT98765432.A.. .KQJT98765432.. ..AKQJT98765432. ...AKQJT98765432\"]\n",
-        told: (3, 30, 45),
+        told: Err((3, 30, 45)),
         ..LAWFUL
     },
     Case {
         deal: b"[Deal \"N:AKQJT98765432.AKQJT98765432.. ... ..AKQJT98765432. ...AKQJT98765432\"]\n",
-        told: (3, 30, 45),
+        told: Err((3, 30, 45)),
         ..LAWFUL
     },
 ];
@@ -287,47 +287,47 @@ pub const ORDER: [Case; 8] = [
         board: b"[x",
         dealer: b"\n",
         more: b"\n\x1f\n",
-        told: (1, 22, 103),
+        told: Err((1, 22, 103)),
         ..LAWFUL
     },
     Case {
         board: b"[Board \"0\"]\n",
         more: b"\x1f\n",
-        told: (1, 22, 124),
+        told: Err((1, 22, 124)),
         ..LAWFUL
     },
     Case {
         board: b"",
         more: b"[x\n",
-        told: (2, 24, 112),
+        told: Err((2, 24, 112)),
         ..LAWFUL
     },
     Case {
         board: b"[Board \"0\"]\n",
         more: b"[Dealer \"N\"]\n",
-        told: (2, 25, 0),
+        told: Err((2, 25, 0)),
         ..LAWFUL
     },
     Case {
         board: b"[Board \"0\"]\n",
         dealer: b"[Dealer \"W\"]\n",
-        told: (3, 26, 0),
+        told: Err((3, 26, 0)),
         ..LAWFUL
     },
     Case {
         vulnerable: b"[Vulnerable \"EW\"]\n",
         deal: b"[Deal \"N\"]\n",
-        told: (3, 27, 25),
+        told: Err((3, 27, 25)),
         ..LAWFUL
     },
     Case {
         deal: b"[Deal \"N:AAQJT98765432... .AKQJT98765432.. ..AKQJT98765432. ...AKQJT9876543x\"]\n",
-        told: (3, 28, 45),
+        told: Err((3, 28, 45)),
         ..LAWFUL
     },
     Case {
         deal: b"[Deal \"N:AKQJT98765432.A.. .KQJT98765432.. ..AKQJT98765432. ...AAQJT98765432\"]\n",
-        told: (3, 29, 45),
+        told: Err((3, 29, 45)),
         ..LAWFUL
     },
 ];

@@ -7,16 +7,13 @@ ghost use Rattle.std.specs.Prelude.{◌≡◌, ◌<◌, false};
 use auctions::Standing;
 use auctions::outcome::declarer;
 use cards::chairs::Chair;
-use input::fill;
+use input::{MOST, fill};
 use notation::{call_named, denomination_text};
 use rulings::Irregularity;
 use scoring::contracts::Doubling;
 use std::io;
 use std::str::from_utf8;
 use values::letters::{chair_letter, dealer_named};
-
-// The longest input that is read, and one byte more, to know a longer one.
-const MOST: usize = 65_536;
 
 // The longest auction.
 const LONGEST: usize = 319;

@@ -2,13 +2,10 @@
 
 #![tactic(auto)]
 
-use input::fill;
+use input::{MOST, fill};
 use reply::reply;
 use std::io;
 use std::io::Write;
-
-// The longest file that is read, and one byte more, to know a longer one.
-const MOST: usize = 65_536;
 
 fn main(rt: HostRuntime) -> io::Result<()> {
     let mut bytes = [0; MOST];

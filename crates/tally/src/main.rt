@@ -2,16 +2,13 @@
 
 #![tactic(auto)]
 
-use input::fill;
+use input::{MOST, fill};
 use lines::next_line;
 use sheets::comparisons::{Imps, Matchpoints};
 use sheets::rows::Row;
 use sheets::sheet::Sheet;
 use slips::read_slip;
 use std::io;
-
-// The longest input that is read, and one byte more, to know a longer one.
-const MOST: usize = 65_536;
 
 const ROWS: usize = 128;
 
