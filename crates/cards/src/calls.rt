@@ -1,6 +1,6 @@
 // Calls, each a byte: Pass, Double, Redouble, and the 35 bids in rising order.
 ghost use Rattle.std.specs.Prelude.{◌≡◌};
-ghost use Rattle.cards.specs.Calls.{bid_of, level_of, denomination_of};
+ghost use Rattle.cards.specs.Calls.{bid_of, denomination_of, is_bid, level_of};
 
 use crate::suits::Denomination;
 
@@ -9,6 +9,13 @@ pub const PASS: u8 = 0;
 pub const DOUBLE: u8 = 1;
 
 pub const REDOUBLE: u8 = 2;
+
+// Is the call a bid?
+pub fn is_bid(call: u8) -> bool
+    ensures bid { result ≡ is_bid call }
+{
+    (3..=37).contains(&call)
+}
 
 // The bid of a level, 1 to 7, and a denomination.
 pub fn bid(level: u8, denomination: Denomination) -> Option<u8>
@@ -24,7 +31,7 @@ pub fn bid(level: u8, denomination: Denomination) -> Option<u8>
 pub fn level(call: u8) -> Option<u8>
     ensures level { result ≡ level_of call }
 {
-    if call < 3 || call > 37 {
+    if !is_bid(call) {
         return None;
     }
     Some((call - 3) / 5 + 1)
@@ -34,7 +41,7 @@ pub fn level(call: u8) -> Option<u8>
 pub fn denomination(call: u8) -> Option<Denomination>
     ensures denomination { result ≡ denomination_of call }
 {
-    if call < 3 || call > 37 {
+    if !is_bid(call) {
         return None;
     }
     Denomination::from_code((call - 3) % 5)
