@@ -6,6 +6,8 @@
 --     standing d calls           where the auction stands: the chair in turn, the last bid, the last call other than Pass,
 --                                and how many passes end the calls, of which four are enough to know
 --     is_over s                  the auction has ended: after four passes with no bid, or three after a bid
+--     by_opponent p c m          p holds of the call m, and an opponent of the chair c made it
+--     opponents_call c m         what the call m is, if an opponent of the chair c made it
 --     call_ruling s a            the number with which the call a is refused, 0 if it is lawful
 --     start d, called s a        where an auction stands before the first call, and after one call more
 use Rattle.std.specs.Prelude.{ℕ, ◌+◌, min, Bool, false, cond, not, ◌&&◌, List, [], ◌∷◌, length, Some, None, Option, ◌==◌, nat_le}
@@ -59,6 +61,11 @@ height (Some m) = m.call
 abbrev pub by_opponent : (ℕ → Bool) → Chair → Option Made → Bool
 by_opponent p c None = false
 by_opponent p c (Some m) = p m.call && not (same_side c m.by)
+
+-- what the call was, if an opponent of the chair made it
+abbrev pub opponents_call : Chair → Option Made → Option ℕ
+opponents_call c None = None
+opponents_call c (Some m) = cond (same_side c m.by) None (Some m.call)
 
 -- the questions in their order
 abbrev pub call_ruling : Standing → ℕ → ℕ

@@ -3,21 +3,22 @@
 #![tactic(auto)]
 
 ghost use Rattle.std.specs.Prelude.{◌≡◌};
-ghost use Rattle.auctions.specs.Auctions.{by_opponent, call_ruling, called, height, is_double, is_over, standing, start};
+ghost use Rattle.auctions.specs.Auctions.{call_ruling, called, height, is_over, opponents_call, standing, start};
 ghost use Rattle.auctions.specs.Laws.{AtMost319, DoubledByOpponents, Lasts, PassIsLawful, Steps, Turns};
-ghost use Rattle.cards.specs.Calls.{is_bid};
 ghost use Rattle.rulings.specs.Rulings.{ruling};
 
-use cards::calls::{DOUBLE, PASS, REDOUBLE};
+use cards::calls::{DOUBLE, PASS, REDOUBLE, is_bid};
 use cards::chairs::Chair;
 use rulings::Irregularity;
 
 pub mod outcome;
 
-// The lowest bid and the highest.
-const ONE_CLUB: u8 = 3;
-
-const SEVEN_NO_TRUMP: u8 = 37;
+// The calls of an auction, of which the dealer made the first.
+#[derive(Clone, Copy)]
+pub struct Auction<'a> {
+    pub dealer: Chair,
+    pub calls: &'a [u8],
+}
 
 // A call with the chair that made it.
 #[derive(Clone, Copy)]
@@ -36,10 +37,19 @@ pub struct Standing {
     pub passes: u8,
 }
 
-fn is_bid(call: u8) -> bool
-    ensures bid { result ≡ is_bid call }
-{
-    call >= ONE_CLUB && call <= SEVEN_NO_TRUMP
+impl Auction<'_> {
+    // Where the auction stands after these calls.
+    pub fn standing(&self) -> Standing
+        ensures standing { result ≡ standing self.now.dealer self.now.calls.now }
+        ensures turns { Turns }
+        ensures lasts { Lasts }
+        ensures doubled { DoubledByOpponents }
+    {
+        self.calls
+            .iter()
+            .copied()
+            .fold(Standing::start(self.dealer), Standing::after)
+    }
 }
 
 impl Standing {
@@ -79,20 +89,6 @@ impl Standing {
         }
     }
 
-    // After these calls, of which the dealer made the first.
-    pub fn of(dealer: Chair, calls: &[u8]) -> Standing
-        ensures standing { result ≡ standing dealer calls.now }
-        ensures turns { Turns }
-        ensures lasts { Lasts }
-        ensures doubled { DoubledByOpponents }
-    {
-        let mut standing = Standing::start(dealer);
-        for call in calls {
-            standing = standing.after(*call);
-        }
-        standing
-    }
-
     // Has the auction ended: by four passes with no bid, or by three after a bid?
     pub fn is_over(self) -> bool
         ensures over { result ≡ is_over self }
@@ -107,30 +103,15 @@ impl Standing {
     fn height(self) -> u8
         ensures height { result ≡ height self.bid }
     {
-        match self.bid {
-            None => 0,
-            Some(bid) => bid.call,
-        }
+        self.bid.map_or(0, |bid| bid.call)
     }
 
-    // Is the last call other than Pass a bid by an opponent?
-    fn may_double(self) -> bool
-        ensures doubles { result ≡ by_opponent is_bid self.turn self.action }
+    // The last call other than Pass, if an opponent of the chair in turn made it.
+    fn opponents_call(self) -> Option<u8>
+        ensures call { result ≡ opponents_call self.turn self.action }
     {
-        match self.action {
-            None => false,
-            Some(made) => is_bid(made.call) && !self.turn.same_side(made.by),
-        }
-    }
-
-    // Is the last call other than Pass a double by an opponent?
-    fn may_redouble(self) -> bool
-        ensures redoubles { result ≡ by_opponent is_double self.turn self.action }
-    {
-        match self.action {
-            None => false,
-            Some(made) => made.call == DOUBLE && !self.turn.same_side(made.by),
-        }
+        let made = self.action?;
+        (!self.turn.same_side(made.by)).then_some(made.call)
     }
 
     // The ruling on a call by the chair in turn.
@@ -140,8 +121,12 @@ impl Standing {
         match call {
             38.. => Err(Irregularity::NoSuchAct),
             3.. if call <= self.height() => Err(Irregularity::InsufficientBid),
-            DOUBLE if !self.may_double() => Err(Irregularity::InadmissibleDouble),
-            REDOUBLE if !self.may_redouble() => Err(Irregularity::InadmissibleRedouble),
+            DOUBLE if !self.opponents_call().is_some_and(is_bid) => {
+                Err(Irregularity::InadmissibleDouble)
+            }
+            REDOUBLE if self.opponents_call() != Some(DOUBLE) => {
+                Err(Irregularity::InadmissibleRedouble)
+            }
             _ => Ok(()),
         }
     }

@@ -1,10 +1,11 @@
 // What an auction comes to: contract and declarer.
-ghost use Rattle.std.specs.Prelude.{◌≡◌};
+ghost use Rattle.std.specs.Prelude.{◌≡◌, true};
 ghost use Rattle.std.specs.Option.{option_map};
 ghost use Rattle.auctions.specs.Laws.{Declares};
-ghost use Rattle.auctions.specs.Outcomes.{contract_of, declarer_by, declarer_of, doubling_by, names, terms};
+ghost use Rattle.auctions.specs.Outcomes.{contract_of, declarer_of, doubling_by, first_to_name, names, terms};
+ghost use Rattle.cards.specs.Calls.{is_bid};
 
-use crate::{Made, Standing, is_bid};
+use crate::{Auction, Made, Standing};
 use cards::calls::{DOUBLE, REDOUBLE, denomination, level};
 use cards::chairs::Chair;
 use scoring::contracts::{Contract, Doubling};
@@ -38,35 +39,34 @@ impl Standing {
 
 // Is the call a bid in the denomination of `bid`, by a chair of the side that made it?
 fn names(bid: Made, chair: Chair, call: u8) -> bool
+    requires { is_bid bid.call ≡ true }
     ensures names { result ≡ names bid chair call }
 {
-    is_bid(call)
-        && call.saturating_sub(3) % 5 == bid.call.saturating_sub(3) % 5
-        && chair.same_side(bid.by)
+    denomination(call) == denomination(bid.call) && chair.same_side(bid.by)
 }
 
-// The first chair that names the denomination of the last bid, of the side that made it.
-fn declarer_by(dealer: Chair, calls: &[u8], bid: Option<Made>) -> Option<Chair>
-    ensures declarer { result ≡ declarer_by dealer calls.now bid }
-{
-    let Some(bid) = bid else {
-        return None;
-    };
-    let mut turn = dealer;
-    for call in calls {
-        if names(bid, turn, *call) {
-            return Some(turn);
+impl Auction<'_> {
+    // The first chair that names the denomination of a bid, of the side that made it.
+    fn first_to_name(&self, bid: Made) -> Option<Chair>
+        requires { is_bid bid.call ≡ true }
+        ensures chair { result ≡ first_to_name bid self.now.dealer self.now.calls.now }
+    {
+        let mut turn = self.dealer;
+        for call in self.calls {
+            if names(bid, turn, *call) {
+                return Some(turn);
+            }
+            turn = turn.next();
         }
-        turn = turn.next();
+        None
     }
-    None
-}
 
-// The declarer of the calls so far: of the side that made the last bid, the chair that first bid its
-// denomination. None if nobody has bid.
-pub fn declarer(dealer: Chair, calls: &[u8]) -> Option<Chair>
-    ensures declarer { result ≡ declarer_of dealer calls.now }
-    ensures declares { Declares }
-{
-    declarer_by(dealer, calls, Standing::of(dealer, calls).bid)
+    // The declarer of the calls so far: of the side that made the last bid, the chair that first bid
+    // its denomination. None if nobody has bid.
+    pub fn declarer(&self) -> Option<Chair>
+        ensures declarer { result ≡ declarer_of self.now.dealer self.now.calls.now }
+        ensures declares { Declares }
+    {
+        self.first_to_name(self.standing().bid?)
+    }
 }

@@ -19,7 +19,7 @@ pub fn seats(turn: Chair, declarer: Option<Chair>) -> (Chair, Chair)
     ensures seats { result ≡ seats turn declarer }
 {
     match declarer {
-        Some(declarer) if turn.code() == declarer.partner().code() => (declarer, turn),
+        Some(declarer) if turn == declarer.partner() => (declarer, turn),
         _ => (turn, turn),
     }
 }

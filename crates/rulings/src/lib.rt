@@ -5,10 +5,11 @@
 ghost use Rattle.std.specs.Prelude.{◌≡◌};
 ghost use Rattle.rulings.specs.Rulings.{number};
 
+use std::error::Error;
 use std::fmt;
 
 // What is wrong with a call or a card, in the order of the questions.
-#[derive(Clone, Copy, Debug, PartialEq)]
+#[derive(Clone, Copy, Debug, PartialEq, Eq)]
 pub enum Irregularity {
     NoSuchAct,
     InsufficientBid,
@@ -37,7 +38,7 @@ impl Irregularity {
 // The irregularity in words, for people: no contract says what is printed.
 impl fmt::Display for Irregularity {
     fn fmt<W: fmt::Write>(&self, f: &mut fmt::Formatter<W>) -> fmt::Result {
-        f.write_str(match *self {
+        f.write_str(match self {
             Irregularity::NoSuchAct => "there is no such call or card",
             Irregularity::InsufficientBid => "the bid is not above the last bid",
             Irregularity::InadmissibleDouble => {
@@ -51,3 +52,5 @@ impl fmt::Display for Irregularity {
         })
     }
 }
+
+impl Error for Irregularity {}
