@@ -2,10 +2,10 @@
 
 #![tactic(auto)]
 
-ghost use Rattle.std.specs.Prelude.{◌≡◌, ◌+◌, ◌-◌, ◌<◌, ◌≤◌, length, drop, Some};
-ghost use Rattle.lines.specs.Lines.{line_length, line_size, printable};
+ghost use Rattle.std.specs.Prelude.{◌≡◌, ◌<◌, length, Some};
+ghost use Rattle.lines.specs.Lines.{lines, printable};
 ghost use Rattle.lines.specs.Checks.{line_checked, file_checked};
-ghost use Rattle.lines.specs.Walks.{seen, step, told, line_from, line_at, Heads};
+ghost use Rattle.lines.specs.Walks.{seen, step, told, line_from, line_at, Heads, lines_left};
 
 use faults::Fault;
 
@@ -21,50 +21,25 @@ pub struct Line<'a> {
     pub next: usize,
 }
 
-// Where a line ends, without its end mark and with it.
-#[derive(Clone, Copy)]
-struct Span {
-    end: usize,
-    next: usize,
-}
-
-fn span_at(file: &[u8], at: usize) -> Span
-    requires { at ≤ length file.now }
-    ensures end { result.end ≡ at + line_length (drop at file.now) }
-    ensures next { result.next ≡ at + line_size (drop at file.now) }
-    ensures order { (at ≤ result.end) × ((result.end ≤ result.next) × (result.next ≤ length file.now)) }
-    ensures rises { at < length file.now → at < result.next }
-{
-    let mut i = at;
-    while i < file.len() {
-        if file[i] == b'\n' {
-            return Span {
-                end: i,
-                next: i + 1,
-            };
-        }
-        if file[i] == b'\r' && i + 1 < file.len() && file[i + 1] == b'\n' {
-            return Span {
-                end: i,
-                next: i + 2,
-            };
-        }
-        i += 1;
-    }
-    Span { end: i, next: i }
-}
-
+// The line that starts at an offset in the file.
 fn line_at<'a>(file: &'a [u8], at: usize) -> Line<'a>
     requires { at < length file.now }
     ensures line { step result ≡ line_from at file.now }
     ensures heads { Heads (Some result) at file.now }
 {
-    let span = span_at(file, at);
-    let end = span.end;
+    let rest = &file[at..];
+    let Some(length) = rest.iter().position(|byte| *byte == b'\n') else {
+        return Line {
+            start: at,
+            text: rest,
+            next: file.len(),
+        };
+    };
+    let text = &rest[..length];
     Line {
         start: at,
-        text: &file[at..end],
-        next: span.next,
+        text: text.strip_suffix(b"\r").unwrap_or(text),
+        next: at + length + 1,
     }
 }
 
@@ -79,15 +54,43 @@ pub fn next_line<'a>(file: &'a [u8], at: usize) -> Option<Line<'a>>
     Some(line_at(file, at))
 }
 
+// The lines of a file that are still to come.
+#[derive(Clone, Drop)]
+pub struct Lines<'a> {
+    file: &'a [u8],
+    at: usize,
+}
+
+impl<'a> Lines<'a> {
+    // The lines of a file, from the first on.
+    pub fn of(file: &'a [u8]) -> Self
+        ensures lines { lines_left result ≡ lines 0 file.now }
+    {
+        Lines { file, at: 0 }
+    }
+}
+
+impl<'a> Iterator for Lines<'a> {
+    ghost use Rattle.std.specs.Iterator.{YieldsFirstBy, item_count};
+    ghost use Rattle.lines.specs.Walks.{seen, lines_left};
+
+    type Item = Line<'a>;
+
+    ghost next_gives = { YieldsFirstBy seen lines_left };
+
+    ghost remaining = { item_count lines_left };
+
+    fn next(&mut self) -> Option<Line<'a>> {
+        let line = next_line(self.file, self.at)?;
+        self.at = line.next;
+        Some(line)
+    }
+}
+
 fn is_printable(text: &[u8]) -> bool
     ensures printable { result ≡ printable text.now }
 {
-    for byte in text {
-        if *byte < 32 || *byte > 126 {
-            return false;
-        }
-    }
-    true
+    text.iter().all(|byte| (32..=126).contains(byte))
 }
 
 fn check_line(line: Line) -> Result<(), Fault>
@@ -109,10 +112,8 @@ pub fn check_lines(file: &[u8]) -> Result<(), Fault>
     if file.len() > LONGEST_FILE {
         return Err(Fault::FileTooLong);
     }
-    let mut at = 0;
-    while let Some(line) = next_line(file, at) {
+    for line in Lines::of(file) {
         check_line(line)?;
-        at = line.next;
     }
     Ok(())
 }

@@ -18,10 +18,5 @@ pub fn run_length<A: Alphabet>(text: &[u8]) -> usize
     ensures run { result ≡ prefix_len A.Alphabet.admits text.now }
     ensures within { result ≤ length text.now }
 {
-    for (i, byte) in text.iter().enumerate() {
-        if !A::contains(*byte) {
-            return i;
-        }
-    }
-    text.len()
+    text.iter().take_while(|byte| A::contains(**byte)).count()
 }

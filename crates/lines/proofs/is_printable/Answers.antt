@@ -1,15 +1,8 @@
-use Rattle.std.proofs.Common.{arith}
-use Rattle.std.proofs.lemmas.List.{at_drop_more, at_drop_all}
-use Rattle.std.proofs.lemmas.Bool.Decides.{nat_tests}
-use Rattle.lines.specs.Lines.{printable}
+use Rattle.std.proofs.Common.{nat_le, ◌&&◌, ℕ, rules, tests, sym, ◌∙◌}
+use Rattle.std.proofs.lemmas.Iterator.Search.{all_from_yields_List}
+use Rattle.std.proofs.lemmas.Iterator.{YieldsList-from_slice}
+use Rattle.lines.proofs.FirstLines.{printable-by_byte}
 use Rattle.lines.proofs.is_printable.Goals as goal
 
-pub returns-then-byte-lt32 : goal.returns-then-byte-lt32
-returns-then-byte-lt32 c =
-    let e = at_drop_more printable c.args.text.now c.loop-byte.byte-index 0 (omega arith) in record { printable = grind (arith, nat_tests) }
-
-pub loop-byte-preserved : goal.loop-byte-preserved
-loop-byte-preserved c = let e = at_drop_more printable c.args.text.now c.loop-byte.byte-index 0 (omega arith) in grind (arith, nat_tests)
-
 pub returns : goal.returns
-returns c = let e = at_drop_all printable c.args.text.now c.loop-byte.byte-index (omega arith) in record { printable = grind (arith, nat_tests) }
+returns c = record { printable = all_from_yields_List (λ (b : ℕ). nat_le 32 b && nat_le b 126) _ _ _ c.all.ensures.ran (YieldsList-from_slice c.args.text.now cc) (λ x b q k. search (rules, tests)) ∙ sym (printable-by_byte c.args.text.now) }
