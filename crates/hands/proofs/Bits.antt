@@ -1,6 +1,6 @@
 -- A card gone and an empty stretch of cards, as bits of a hand.
 use Rattle.std.proofs.Common.{◌≡◌, ℕ, zero, suc, ◌+◌, ◌*◌, ◌/◌, ◌%◌, ◌^◌, ◌<◌, true, eqb, sym, refl, ap, ◌∙◌, inl, inr, pow-suc, add-one, arith}
-use Rattle.std.proofs.lemmas.Nat.{mod-pow-add, shr-shr}
+use Rattle.std.proofs.lemmas.Nat.{mod-pow-add, one_shl, shr-shr}
 use Rattle.std.proofs.lemmas.Bool.{both_ways, cases_lt, eq-eqb, eqb-false, eqb-true, ne_eqb}
 use Rattle.cards.proofs.Ways.{by}
 use Rattle.cards.specs.Hands.{holds}
@@ -14,6 +14,10 @@ held_below h n c l e = elim (cases_lt c n) [ inl below ↦ below | inr past ↦ 
 pub without_held : (h c : ℕ) → holds h c ≡ true → without h c + 2 ^ c ≡ h
 without_held h zero e = omega (arith, eqb-true (h % 2) 1 e)
 without_held h (suc c) e = let f : without (h / 2) c + 2 ^ c ≡ h / 2 = without_held (h / 2) c e in omega (arith, pow-suc 2 c)
+
+-- to take away a card that is held is to take its bit away
+pub without_bit : (h c : ℕ) → h < 2 ^ 64 → holds h c ≡ true → (c < 64) × (1 * 2 ^ c % 2 ^ 64 + without h c ≡ h)
+without_bit h c l e = let small = held_below h 64 c l e in (small, omega (arith, one_shl c 64 small, without_held h c e))
 
 low_bits : (h n : ℕ) → h % 2 ^ suc n ≡ (h / 2 % 2 ^ n) * 2 + h % 2
 low_bits h n = ap (λ k. h % 2 ^ k) (sym (add-one n)) ∙ mod-pow-add h n 1

@@ -1,7 +1,8 @@
 -- What a hand holds: what a deal gives it, and what is left of it when cards are gone.
-use Rattle.std.proofs.Common.{◌≡◌, ℕ, zero, suc, ◌+◌, ◌-◌, ◌*◌, ◌/◌, ◌%◌, ◌<◌, ◌≤◌, Bool, true, false, cond, not, ◌&&◌, eqb, ◌≢◌}
+use Rattle.std.proofs.Common.{◌≡◌, ℕ, zero, suc, ◌+◌, ◌-◌, ◌*◌, ◌/◌, ◌%◌, ◌<◌, ◌≤◌, Bool, true, false, cond, not, eqb, ◌≢◌}
 use Rattle.std.proofs.Common.{List, [], ◌∷◌, ◌++◌, length, get_or, Some, None, Option, sym, refl, ap, ◌∙◌, subst, inl, inr, le_of_suc-le-suc, not-suc-le-zero, arith}
-use Rattle.std.proofs.lemmas.Bool.{and_parts, cases_eq, cond-false, cond-true, eqb-false, eqb-true, false≢true, not-true}
+use Rattle.std.proofs.lemmas.Bool.{and_parts, both_ways, cases_eq, cases_lt, eqb-false, eqb-true, false≢true, not-true}
+use Rattle.std.proofs.Math.Bool.{and-false, and-true}
 use Rattle.cards.proofs.Ways.{by}
 use Rattle.cards.specs.Deals.{count}
 use Rattle.cards.specs.Hands.{dealt, holds}
@@ -53,18 +54,10 @@ pub without_none : (h c : ℕ) → holds h c ≡ false → without h c ≡ h
 without_none h zero e = omega (arith, eqb-false (h % 2) 1 e)
 without_none h (suc c) e = rw (without_none (h / 2) c e) (omega arith)
 
-and_none : (b : Bool) → (b && false) ≡ false
-and_none true = refl
-and_none false = refl
-
-and_all : (b : Bool) → (b && true) ≡ b
-and_all true = refl
-and_all false = refl
-
 pub remains : Remains
-remains h [] x = sym (and_all (holds h x))
+remains h [] x = sym (and-true (holds h x))
 remains h (c ∷ cs) x = remains (without h c) cs x ∙ by (eqb c x)
-    (λ e. let f : holds (without h c) x ≡ false = subst (λ y. holds (without h c) y ≡ false) (eqb-true c x e) (gone h c) in rw (f, e) (sym (and_none (holds h x))))
+    (λ e. let f : holds (without h c) x ≡ false = subst (λ y. holds (without h c) y ≡ false) (eqb-true c x e) (gone h c) in rw (f, e) (sym (and-false (holds h x))))
     (λ e. rw (kept h c x (λ p. eqb-false c x e (sym p)), e) refl)
 
 pub remaining_more : (h : ℕ) (cs : List ℕ) (a : ℕ) → remaining h (cs ++ a ∷ []) ≡ without (remaining h cs) a
@@ -119,19 +112,23 @@ some_there h c (suc n) e = by (holds h c)
     (λ q. (c, omega arith, omega arith, q))
     (λ q. let r = some_there h (suc c) n (rw q at e) in (r.0, omega (arith, r.1), omega (arith, r.2), r.3))
 
--- the lowest card from a place on, one card at a time
-pub lowest_here : (h c n : ℕ) → 0 < n → holds h c ≡ true → lowest_from h c n ≡ Some c
+-- what is found so is the lowest card
+pub lowest_only : (h c n : ℕ) (o : Option ℕ) → Found h c n o → o ≡ lowest_from h c n
 unfolding lowest_from
-lowest_here h c zero l e = absurd (not-suc-le-zero l)
-lowest_here h c (suc n) l e = cond-true (holds h c) (Some c) _ e
+lowest_only h c zero None f = refl
+lowest_only h c zero (Some x) f = absurd (let v : ⊥ = omega (arith, f.0, f.1) in v)
+lowest_only h c (suc n) o f = by (holds h c) (λ e. rw e (here e o f)) (λ e. rw e (lowest_only h (suc c) n o (later e o f)))
+  where
+    here : holds h c ≡ true → (o : Option ℕ) → Found h c (suc n) o → o ≡ Some c
+    here e None f = absurd (both_ways (holds h c) (f c (omega arith) (omega arith)) e)
+    here e (Some x) f = elim (cases_lt c x) [ inl l ↦ absurd (both_ways (holds h c) (f.3 c (omega arith) l) e) | inr l ↦ ap Some (omega (arith, f.0)) ]
 
-pub lowest_later : (h c n m d : ℕ) → n ≡ suc m → d ≡ suc c → holds h c ≡ false → lowest_from h c n ≡ lowest_from h d m
-unfolding lowest_from
-lowest_later h c n m d p q e = ap (λ k. lowest_from h c k) p ∙ cond-false (holds h c) (Some c) _ e ∙ ap (λ k. lowest_from h k m) (sym q)
-
-pub lowest_none : (h c n : ℕ) → n ≡ 0 → lowest_from h c n ≡ None
-unfolding lowest_from
-lowest_none h c n p = ap (λ k. lowest_from h c k) p
+    later : holds h c ≡ false → (o : Option ℕ) → Found h c (suc n) o → Found h (suc c) n o
+    later e None f = λ x l u. f x (omega arith) (omega arith)
+    later e (Some x) f = elim (cases_eq c x) [
+      | inl q ↦ absurd (both_ways (holds h c) e (subst (λ y. holds h y ≡ true) (sym q) f.2))
+      | inr q ↦ (omega (arith, f.0), omega (arith, f.1), f.2, λ y l u. f.3 y (omega arith) u)
+    ]
 
 pub lowest_found : Lowest
 unfolding lowest_from

@@ -3,7 +3,8 @@
 --     remaining h cs             the hand h without the cards cs
 --     is_void h s                h holds no card of the suit s
 --     lowest h, lowest_of h s    the lowest card of h by its number, and the lowest of a suit
-use Rattle.std.specs.Prelude.{ℕ, zero, suc, ◌+◌, ◌-◌, ◌*◌, ◌/◌, ◌%◌, Bool, true, cond, not, ◌&&◌, List, [], ◌∷◌, Some, None, Option}
+use Rattle.std.specs.Prelude.{ℕ, zero, suc, ◌+◌, ◌-◌, ◌*◌, ◌/◌, ◌%◌, Bool, true, cond, not, ◌&&◌, List, Some, None, Option}
+use Rattle.std.specs.List.{fold}
 use Rattle.cards.specs.declared.suits.Suit.{Suit}
 use Rattle.cards.specs.Hands.{holds}
 use Rattle.cards.specs.Suits.{code}
@@ -13,8 +14,7 @@ without h zero = h - h % 2
 without h (suc c) = without (h / 2) c * 2 + h % 2
 
 abbrev pub remaining : ℕ → List ℕ → ℕ
-remaining h [] = h
-remaining h (c ∷ cs) = remaining (without h c) cs
+remaining h cs = fold without h cs
 
 -- h holds none of the n cards from the card c on
 unfoldable pub none_from : ℕ → ℕ → ℕ → Bool

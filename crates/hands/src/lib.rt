@@ -17,6 +17,7 @@ use cards::suits::Suit;
 const CLUBS: u64 = 0x1fff;
 
 // The hand that a deal gives a chair: byte c of the deal names the chair that gets the card c.
+// It stays beside the function of crate cards, for it alone promises the law of what is dealt: one function would promise less.
 pub fn dealt(deal: &[u8; 52], chair: Chair) -> u64
     ensures hand { result ≡ dealt deal.now (code chair) }
     ensures deals { Deals }
@@ -40,11 +41,7 @@ pub fn remaining(hand: u64, cards: &[u8]) -> u64
     ensures hand { result ≡ remaining hand cards.now }
     ensures remains { Remains }
 {
-    let mut left = hand;
-    for card in cards {
-        left = without(left, *card);
-    }
-    left
+    cards.iter().fold(hand, |left, card| without(left, *card))
 }
 
 // Does the hand hold no card of the suit?
@@ -59,12 +56,7 @@ fn lowest_from(hand: u64, first: u8, cards: u8) -> Option<u8>
     requires { first + cards ≤ 64 }
     ensures card { result ≡ lowest_from hand first cards }
 {
-    for i in 0..cards {
-        if holds(hand, first + i) {
-            return Some(first + i);
-        }
-    }
-    None
+    (first..first + cards).find(|card| holds(hand, *card))
 }
 
 // The lowest card of a hand, by its number.

@@ -1,6 +1,5 @@
-use Rattle.std.proofs.Common.{rules}
 use Rattle.hands.proofs.Holdings.{deals}
 use Rattle.hands.proofs.dealt.Goals as goal
 
-pub returns : goal.returns
-returns c = record { hand = search rules; deals = deals }
+pub returns-clause-deals : goal.returns-clause-deals
+returns-clause-deals c = deals
