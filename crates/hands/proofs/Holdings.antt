@@ -4,6 +4,7 @@ use Rattle.std.proofs.Common.{List, [], ◌∷◌, ◌++◌, length, get_or, Som
 use Rattle.std.proofs.lemmas.Bool.{and_parts, both_ways, cases_eq, cases_lt, eqb-false, eqb-true, false≢true, not-true}
 use Rattle.std.proofs.Math.Bool.{and-false, and-true}
 use Rattle.cards.proofs.Ways.{by}
+use Rattle.cards.proofs.Counts.{count_more}
 use Rattle.cards.specs.Deals.{count}
 use Rattle.cards.specs.Hands.{dealt, holds}
 use Rattle.hands.specs.Hands.{lowest_from, none_from, remaining, without}
@@ -85,7 +86,7 @@ held_dealt (y ∷ ys) x =
     let b : ℕ = cond (eqb y x) 1 0 in
     let s : b < 2 = bit_small (eqb y x) in
     let f : held (dealt ys x) (length ys) ≡ count x ys = held_dealt ys x in
-    rw (rest (dealt ys x) b s, low (dealt ys x) b s) (omega arith)
+    rw (rest (dealt ys x) b s, low (dealt ys x) b s, count_more x y ys) (omega arith)
 
 pub held_some : (h n : ℕ) → 0 < held h n → (x : ℕ) × (x < n) × (holds h x ≡ true)
 unfolding held

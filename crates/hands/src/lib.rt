@@ -48,7 +48,7 @@ pub fn remaining(hand: u64, cards: &[u8]) -> u64
 pub fn is_void(hand: u64, suit: Suit) -> bool
     ensures void { result ≡ is_void hand suit }
 {
-    (hand >> (13 * suit.code())) & CLUBS == 0
+    (hand >> (13 * u8::from(suit))) & CLUBS == 0
 }
 
 // The lowest card that the hand holds among so many from one on.
@@ -71,5 +71,5 @@ pub fn lowest(hand: u64) -> Option<u8>
 pub fn lowest_of(hand: u64, suit: Suit) -> Option<u8>
     ensures card { result ≡ lowest_of hand suit }
 {
-    lowest_from(hand, 13 * suit.code(), 13)
+    lowest_from(hand, 13 * u8::from(suit), 13)
 }

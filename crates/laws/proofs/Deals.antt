@@ -5,6 +5,7 @@ use Rattle.std.proofs.lemmas.Bool.Decides.{nat_tests}
 use Rattle.cards.specs.declared.chairs.Chair.{Chair}
 use Rattle.cards.specs.declared.chairs.Chair.TheVariants.{North, East, South, West}
 use Rattle.cards.specs.Chairs.{code}
+use Rattle.cards.proofs.Counts.{count_more}
 use Rattle.cards.specs.Deals.{count}
 use Rattle.cards.specs.Hands.{dealt}
 use Rattle.hands.proofs.Holdings.{held, held_dealt}
@@ -42,7 +43,7 @@ one_of_five y = grind (arith, nat_tests)
 
 all_counted : (d : List ℕ) → count 0 d + count 1 d + count 2 d + count 3 d + strays d ≡ length d
 all_counted [] = refl
-all_counted (y ∷ ys) = omega (arith, one_of_five y, all_counted ys)
+all_counted (y ∷ ys) = omega (arith, one_of_five y, all_counted ys, count_more 0 y ys, count_more 1 y ys, count_more 2 y ys, count_more 3 y ys)
 
 no_stray : (d : List ℕ) (x : ℕ) → strays d ≡ 0 → x < length d → get_or d x 0 < 4
 no_stray [] x e l = absurd (not-suc-le-zero l)

@@ -6,5 +6,5 @@ use Rattle.hands.proofs.is_void.Goals as goal
 
 pub returns : goal.returns
 returns c =
-    let first = 13 * c.code.result in
-    record { void = ap (λ x. eqb x 0) (and_mask _ 13) ∙ sym (none_bits c.args.hand first 13) ∙ ap (λ n. none_from c.args.hand (13 * n) 13) c.code.ensures.code }
+    let first = 13 * c.from.result in
+    record { void = ap (λ x. eqb x 0) (and_mask _ 13) ∙ sym (none_bits c.args.hand first 13) ∙ ap (λ n. none_from c.args.hand (13 * n) 13) c.from.ensures.0 }
