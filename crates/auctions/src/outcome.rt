@@ -2,7 +2,7 @@
 ghost use Rattle.std.specs.Prelude.{◌≡◌, true};
 ghost use Rattle.std.specs.Option.{option_map};
 ghost use Rattle.auctions.specs.Laws.{Declares};
-ghost use Rattle.auctions.specs.Outcomes.{contract_of, declarer_of, doubling_by, first_to_name, names, terms};
+ghost use Rattle.auctions.specs.Outcomes.{contract_of, declarer_of, doubling_by, first_to_name, terms};
 ghost use Rattle.cards.specs.Calls.{is_bid};
 
 use crate::{Auction, Made, Standing};
@@ -37,14 +37,6 @@ impl Standing {
     }
 }
 
-// Is the call a bid in the denomination of `bid`, by a chair of the side that made it?
-fn names(bid: Made, chair: Chair, call: u8) -> bool
-    requires { is_bid bid.call ≡ true }
-    ensures names { result ≡ names bid chair call }
-{
-    denomination(call) == denomination(bid.call) && chair.same_side(bid.by)
-}
-
 impl Auction<'_> {
     // The first chair that names the denomination of a bid, of the side that made it.
     fn first_to_name(&self, bid: Made) -> Option<Chair>
@@ -53,7 +45,7 @@ impl Auction<'_> {
     {
         let mut turn = self.dealer;
         for call in self.calls {
-            if names(bid, turn, *call) {
+            if denomination(*call) == denomination(bid.call) && turn.same_side(bid.by) {
                 return Some(turn);
             }
             turn = turn.next();
