@@ -1,5 +1,5 @@
 -- A total for each two rows fits its type.
-use Rattle.std.proofs.Common.{◌≡◌, ℕ, zero, suc, ◌-◌, ◌*◌, ◌/◌, ◌^◌, ◌<◌, ◌≤◌, ℤ, pos, negsuc, ◌*ℤ◌, neg_ℤ, sym, ap, ◌∙◌, subst, mul-le-mul, mul-le-mul_left, arith, w32, w64, SFits, to_z, of_z}
+use Rattle.std.proofs.Common.{◌≡◌, ℕ, zero, suc, ◌-◌, ◌*◌, ◌/◌, ◌^◌, ◌<◌, ◌≤◌, ℤ, pos, negsuc, ◌*ℤ◌, neg_ℤ, ap, ◌∙◌, mul-le-mul, mul-le-mul_left, arith, w32, w64, SFits, to_z, of_z}
 use Rattle.std.proofs.lemmas.Int.{ints, to_z-of_z}
 use Rattle.sheets.specs.Results.{shared}
 
@@ -16,17 +16,9 @@ meetings_few n k a b = omega (arith, mul-le-mul a b)
 
 -- as the code has the product, of a total t and of m meetings
 module _ (t : ℤ) (m : ℕ) (f : SFits w32 t) (l : m ≤ 8192) where
-  abbrev wide : ℤ
-  wide = to_z w64 (of_z w64 (to_z w32 (of_z w32 t)))
-
-  wide_is : wide *ℤ to_z w64 m ≡ t *ℤ pos m
-  wide_is =
-      let e : wide ≡ t = ap (λ x. to_z w64 (of_z w64 x)) (to_z-of_z w32 t f) ∙ to_z-of_z w64 t (record { sfits = omega (arith, f.sfits) }) in
+  pub share_is : (s : ℤ) (n : ℕ) → t ≡ s → m ≡ n * (n - 1) / 2 → to_z w64 (of_z w64 (to_z w64 (of_z w64 t) *ℤ to_z w64 m)) ≡ shared s n
+  share_is s n p q =
+      let e : to_z w64 (of_z w64 t) ≡ t = to_z-of_z w64 t (record { sfits = omega (arith, f.sfits) }) in
       let k : to_z w64 m ≡ pos m = omega (arith, ints) in
-      ap (λ x. x *ℤ to_z w64 m) e ∙ ap (λ y. t *ℤ y) k
-
-  pub wide_fits : SFits w64 (wide *ℤ to_z w64 m)
-  wide_fits = subst (SFits w64) (sym wide_is) (product_fits t m f l)
-
-  pub share_is : (s : ℤ) (n : ℕ) → t ≡ s → m ≡ n * (n - 1) / 2 → to_z w64 (of_z w64 (wide *ℤ to_z w64 m)) ≡ shared s n
-  share_is s n p q = to_z-of_z w64 _ wide_fits ∙ wide_is ∙ ap (λ x. x *ℤ pos m) p ∙ ap (λ k. s *ℤ pos k) q
+      let w : to_z w64 (of_z w64 t) *ℤ to_z w64 m ≡ t *ℤ pos m = ap (λ x. x *ℤ to_z w64 m) e ∙ ap (λ y. t *ℤ y) k in
+      ap (λ x. to_z w64 (of_z w64 x)) w ∙ to_z-of_z w64 _ (product_fits t m f l) ∙ ap (λ x. x *ℤ pos m) p ∙ ap (λ k. s *ℤ pos k) q

@@ -1,7 +1,7 @@
 -- The results of all rows add up, under every rule that names its total.
-use Rattle.std.proofs.Common.{◌≡◌, ℕ, zero, suc, ◌+◌, ◌-◌, ◌*◌, ◌/◌, ◌<◌, ◌≤◌, List, [], ◌∷◌, ◌++◌, length, take, drop, ℤ, pos, ◌+ℤ◌, ◌*ℤ◌, sym, refl, ap, ◌∙◌, subst, suc-mul, suc-add, zero-add, mul-suc, add-one, arith}
+use Rattle.std.proofs.Common.{◌≡◌, ℕ, zero, suc, ◌+◌, ◌-◌, ◌*◌, ◌/◌, ◌<◌, ◌≤◌, List, [], ◌∷◌, ◌++◌, length, take, drop, ℤ, pos, ◌+ℤ◌, ◌*ℤ◌, sym, refl, ap, ◌∙◌, suc-mul, suc-add, zero-add, mul-suc, add-one, arith}
 use lib.IntN.{*ℤ_comm, *ℤ-zero, suc_ℤ-*ℤ}
-use Rattle.std.proofs.lemmas.List.{at_drop_more, at_drop_all, take-take, length-take, get_or-take, length-take-le}
+use Rattle.std.proofs.lemmas.List.{at_drop_more, at_drop_all}
 use Rattle.std.proofs.lemmas.Int.{ints}
 use Rattle.sheets.specs.declared.rows.Row.{Row}
 use Rattle.sheets.specs.Rows.{blank}
@@ -21,31 +21,14 @@ pub against_append : (f : ℤ → ℤ → ℤ) (a : ℤ) (xs ys : List Row) → 
 against_append f a [] ys = omega (arith, ints)
 against_append f a (x ∷ xs) ys = let ih = against_append f a xs ys in omega (arith, ints)
 
-pub against_more : (f : ℤ → ℤ → ℤ) (a : ℤ) (n : ℕ) (mem : List Row) (j : ℕ) → n ≤ length mem → j < n → against f a (drop j (take n mem)) ≡ f a (score_at mem j) +ℤ against f a (drop (j + 1) (take n mem))
-against_more f a n mem j w h =
-    let l : j < length (take n mem) = simp length-take-le h in
-    at_drop_more (against f a) (take n mem) j blank l ∙ ap (λ r. f a r.score +ℤ against f a (drop (j + 1) (take n mem))) (get_or-take n mem j blank h)
+pub against_more : (f : ℤ → ℤ → ℤ) (a : ℤ) (rows : List Row) (j : ℕ) → j < length rows → against f a (drop j rows) ≡ f a (score_at rows j) +ℤ against f a (drop (j + 1) rows)
+against_more f a rows j h = at_drop_more (against f a) rows j blank h
 
-pub against_none : (f : ℤ → ℤ → ℤ) (a : ℤ) (n : ℕ) (mem : List Row) (j : ℕ) → n ≤ j → against f a (drop j (take n mem)) ≡ pos 0
-against_none f a n mem j h = at_drop_all (against f a) (take n mem) j (simp length-take (omega arith))
+pub against_none : (f : ℤ → ℤ → ℤ) (a : ℤ) (rows : List Row) (j : ℕ) → length rows ≤ j → against f a (drop j rows) ≡ pos 0
+against_none f a rows j h = at_drop_all (against f a) rows j h
 
-pub result_split : (f : ℤ → ℤ → ℤ) (n : ℕ) (mem : List Row) (i : ℕ) → i < n → result_of f (take n mem) i ≡ against f (score_at mem i) (drop 0 (take i mem)) +ℤ against f (score_at mem i) (drop (i + 1) (take n mem))
-result_split f n mem i h =
-    let l : i ≤ n = omega arith in
-    against_append f (score_at (take n mem) i) (take i (take n mem)) (drop (suc i) (take n mem)) ∙ simp (score_at, get_or-take n mem i blank h, take-take i n mem l, add-one)
-
--- what is left of a sum is nothing, and its score is the same
-pub close : (f : ℤ → ℤ → ℤ) {a b s : ℤ} (xs ys : List Row) → a ≡ b → against f b xs ≡ pos 0 → s +ℤ against f a xs ≡ against f a ys → s ≡ against f b ys
-close f {a} {b} {s} xs ys e z h =
-    let k : s +ℤ against f b xs ≡ against f b ys = subst (λ x. s +ℤ against f x xs ≡ against f x ys) e h in omega (arith, ints)
-
-pub result_is : (f : ℤ → ℤ → ℤ) (n : ℕ) (mem : List Row) (i : ℕ) {a before after : ℤ} → i < n → a ≡ score_at mem i
-    → before ≡ against f a (drop 0 (take i mem)) → after ≡ against f a (drop (i + 1) (take n mem)) → before +ℤ after ≡ result_of f (take n mem) i
-result_is f n mem i h e b a =
-    let v = result_split f n mem i h in
-    let s = ap (λ x. against f x (drop 0 (take i mem))) e in
-    let t = ap (λ x. against f x (drop (i + 1) (take n mem))) e in
-    omega (arith, ints)
+pub result_split : (f : ℤ → ℤ → ℤ) (rows : List Row) (i : ℕ) → result_of f rows i ≡ against f (score_at rows i) (take i rows) +ℤ against f (score_at rows i) (drop (i + 1) rows)
+result_split f rows i = against_append f (score_at rows i) (take i rows) (drop (suc i) rows) ∙ simp add-one
 
 pub sum_more : (f : ℤ → ℤ → ℤ) (rows : List Row) (i : ℕ) → sum_to f rows (i + 1) ≡ sum_to f rows i +ℤ result_of f rows i
 sum_more f rows i = ap (sum_to f rows) (add-one i)

@@ -3,7 +3,7 @@
 --     imp_count n                how many of the limits lie at or below n
 --     Table                      at the limits begin 1 to 24 IMPs, and 10 points below each there is one less
 --     imps a b                   that count of the size of the difference, with its sign
-use Rattle.std.specs.Prelude.{◌≡◌, ℕ, zero, suc, ◌+◌, ◌-◌, cond, List, [], ◌∷◌, map, ℤ, pos, ◌-ℤ◌, neg_ℤ, int_lt, nat_le, unsigned_abs}
+use Rattle.std.specs.Prelude.{◌≡◌, ℕ, zero, suc, ◌-◌, cond, List, [], ◌∷◌, map, count_by, ℤ, pos, ◌-ℤ◌, neg_ℤ, int_lt, nat_le, unsigned_abs}
 
 abbrev pub matchpoints : ℤ → ℤ → ℤ
 matchpoints a b = cond (int_lt b a) (pos 2) (cond (int_lt a b) (pos 0) (pos 1))
@@ -13,8 +13,7 @@ limits =
     20 ∷ 50 ∷ 90 ∷ 130 ∷ 170 ∷ 220 ∷ 270 ∷ 320 ∷ 370 ∷ 430 ∷ 500 ∷ 600 ∷ 750 ∷ 900 ∷ 1100 ∷ 1300 ∷ 1500 ∷ 1750 ∷ 2000 ∷ 2250 ∷ 2500 ∷ 3000 ∷ 3500 ∷ 4000 ∷ []
 
 abbrev pub reached : ℕ → List ℕ → ℕ
-reached n [] = 0
-reached n (limit ∷ ls) = cond (nat_le limit n) 1 0 + reached n ls
+reached n ls = count_by (λ limit. nat_le limit n) ls
 
 unfoldable pub imp_count : ℕ → ℕ
 imp_count n = reached n limits

@@ -5,7 +5,8 @@
 --     score_fits z               z is a multiple of 10 from -7,600 to 7,600
 --     row_at rows i              row i, counted from 0, if there is such a row
 --     ruling cap rows row        what a sheet that holds rows, with memory for cap of them, answers to one more
-use Rattle.std.specs.Prelude.{ℕ, ◌%◌, Bool, true, false, cond, not, List, [], ◌∷◌, length, ℤ, pos, Ok, Err, Result, ◌==◌, nat_le, nat_lt, slice_index_or, unsigned_abs}
+use Rattle.std.specs.Prelude.{ℕ, ◌%◌, Bool, false, cond, not, ◌||◌, List, length, ℤ, pos, Ok, Err, Result, ◌==◌, nat_le, nat_lt, slice_index_or, unsigned_abs}
+use Rattle.std.specs.List.{list_any}
 use Rattle.sheets.specs.declared.rows.Refusal.{Refusal}
 use Rattle.sheets.specs.declared.rows.Refusal.TheVariants.{NoSpace, WrongPairs, WrongScore, NoRow}
 use Rattle.sheets.specs.declared.rows.Row.{Row}
@@ -17,8 +18,7 @@ number WrongScore = 18
 number NoRow = 19
 
 abbrev pub listed : ℕ → List Row → Bool
-listed p [] = false
-listed p (r ∷ rs) = cond (r.ns == p) true (cond (r.ew == p) true (listed p rs))
+listed p rows = list_any (λ (r : Row). r.ns == p || r.ew == p) rows
 
 abbrev pub is_pair : ℕ → Bool
 is_pair p = cond (nat_le 1 p) (nat_le p 999) false

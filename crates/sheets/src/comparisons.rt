@@ -3,24 +3,22 @@ ghost use Rattle.std.specs.Prelude.{◌≡◌, ◌≤◌, ℤ, pos, ◌+ℤ◌};
 ghost use Rattle.sheets.specs.Comparisons.{matchpoints, imps, imp_count, Table};
 ghost use Rattle.std.proofs.Common.{rules};
 
+use std::cmp::Ordering;
+
 // A rule of comparison names its total: what two scores get, one against the other and the other
 // against the one, always adds up to it.
 pub trait Comparison {
     const TOTAL: i32;
 
-    ghost total: { ℤ };
+    ghost TOTAL: { ℤ };
 
     ghost compared: { ℤ → ℤ → ℤ };
-
-    // The constant, which no clause can name, as the law has it.
-    fn total_points() -> i32
-        ensures total { result ≡ total };
 
     // What a score gets against another.
     fn compare(score: i32, other: i32) -> i32
         ensures compared { result ≡ compared score other };
 
-    ghost balanced: { (a b : ℤ) → compared a b +ℤ compared b a ≡ total };
+    ghost balanced: { (a b : ℤ) → compared a b +ℤ compared b a ≡ TOTAL };
 }
 
 // Two points for a higher score, one for an equal score.
@@ -29,23 +27,17 @@ pub struct Matchpoints;
 impl Comparison for Matchpoints {
     const TOTAL: i32 = 2;
 
-    ghost total = { pos 2 };
+    ghost TOTAL = { pos 2 };
 
     ghost compared = { matchpoints };
 
     ghost balanced = { Prim.search rules };
 
-    fn total_points() -> i32 {
-        Self::TOTAL
-    }
-
     fn compare(score: i32, other: i32) -> i32 {
-        if score > other {
-            2
-        } else if score == other {
-            1
-        } else {
-            0
+        match score.cmp(&other) {
+            Ordering::Greater => 2,
+            Ordering::Equal => 1,
+            Ordering::Less => 0,
         }
     }
 }
@@ -61,13 +53,10 @@ pub fn imps_for(size: u64) -> u8
     ensures bound { result ≤ 24 }
     ensures table { Table }
 {
-    let mut reached = 0;
-    for limit in LIMITS {
-        if limit as u64 <= size {
-            reached += 1;
-        }
-    }
-    reached
+    LIMITS
+        .iter()
+        .filter(|limit| u64::from(**limit) <= size)
+        .count() as u8
 }
 
 // International match points, by the size of the difference.
@@ -76,25 +65,19 @@ pub struct Imps;
 impl Comparison for Imps {
     const TOTAL: i32 = 0;
 
-    ghost total = { pos 0 };
+    ghost TOTAL = { pos 0 };
 
     ghost compared = { imps };
 
     ghost balanced = { Prim.search rules };
 
-    fn total_points() -> i32 {
-        Self::TOTAL
-    }
-
     fn compare(score: i32, other: i32) -> i32 {
-        let difference = score as i64 - other as i64;
-        let points = imps_for(difference.unsigned_abs()) as i32;
-        if score > other {
-            points
-        } else if score < other {
-            -points
-        } else {
-            0
+        let difference = i64::from(score) - i64::from(other);
+        let points = i32::from(imps_for(difference.unsigned_abs()));
+        match score.cmp(&other) {
+            Ordering::Greater => points,
+            Ordering::Equal => 0,
+            Ordering::Less => -points,
         }
     }
 }

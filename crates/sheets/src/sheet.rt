@@ -6,6 +6,7 @@ use crate::rows::Row;
 pub mod entries;
 pub mod results;
 
+// The rows lie in lent memory, whose owner finds them there after the sheet: so a slice with a length beside it, and no `Vec`.
 #[derive(Drop)]
 pub struct Sheet<'a> {
     rows: &'a mut [Row],

@@ -12,12 +12,6 @@ use std::io;
 
 const ROWS: usize = 128;
 
-const BLANK: Row = Row {
-    ns: 0,
-    ew: 0,
-    score: 0,
-};
-
 // Adds a row for each line, and says which lines are refused.
 fn add_slips(rt: &HostRuntime, sheet: &mut Sheet, slips: &[u8]) -> io::Result<()> {
     let mut at = 0;
@@ -41,16 +35,9 @@ fn add_slips(rt: &HostRuntime, sheet: &mut Sheet, slips: &[u8]) -> io::Result<()
 // Prints the rows with their results, and the sums beside what they have to be.
 fn print_results(rt: &HostRuntime, sheet: &Sheet) -> io::Result<()> {
     println!(rt; "  NS   EW   Score     MP    IMP")?;
-    for i in 0..ROWS {
-        let Ok(row) = sheet.row(i) else {
-            break;
-        };
-        let Ok(matchpoints) = sheet.result::<Matchpoints>(i) else {
-            break;
-        };
-        let Ok(imps) = sheet.result::<Imps>(i) else {
-            break;
-        };
+    for (i, row) in sheet.rows().iter().enumerate() {
+        let matchpoints = sheet.result::<Matchpoints>(i).unwrap();
+        let imps = sheet.result::<Imps>(i).unwrap();
         println!(rt;
             "{:>4} {:>4} {:>7} {matchpoints:>6} {imps:>6}",
             row.ns, row.ew, row.score
@@ -76,7 +63,7 @@ fn main(rt: HostRuntime) -> io::Result<()> {
     if length == MOST {
         return println!(rt; "% the input is longer than 65535 bytes");
     }
-    let mut rows = [BLANK; ROWS];
+    let mut rows = [Row::default(); ROWS];
     let mut sheet = Sheet::new(&mut rows);
     add_slips(&rt, &mut sheet, &bytes[0..length])?;
     print_results(&rt, &sheet)

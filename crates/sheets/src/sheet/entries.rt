@@ -1,12 +1,18 @@
 // Rows are put on a sheet.
-ghost use Rattle.std.specs.Prelude.{◌≡◌, [], ◌∷◌, ◌++◌, length, is_ok, if◌then◌else◌, slice_set};
-ghost use Rattle.sheets.specs.Rows.{listed, pairs_fit, row_at, score_fits, ruling};
-ghost use Rattle.sheets.specs.Sheets.{held, memory};
+ghost use Rattle.std.specs.Prelude.{◌≡◌, [], ◌∷◌, ◌++◌, ◌≤◌, length, is_ok, if◌then◌else◌, slice_set};
+ghost use Rattle.sheets.specs.Rows.{is_pair, listed, pairs_fit, row_at, score_fits, ruling};
+ghost use Rattle.sheets.specs.Sheets.{held, lent, memory};
 
 use super::Sheet;
 use crate::rows::{Refusal, Row};
 
 const MOST_ROWS: usize = 128;
+
+fn is_pair(pair: u16) -> bool
+    ensures pair { result ≡ is_pair pair }
+{
+    (1..=999).contains(&pair)
+}
 
 fn score_fits(score: i32) -> bool
     ensures fits { result ≡ score_fits score }
@@ -20,41 +26,39 @@ impl<'a> Sheet<'a> {
     pub fn new(rows: &'a mut [Row]) -> Sheet<'a>
         ensures empty { held result ≡ [] }
         ensures memory { memory result ≡ rows.old }
-        ensures lent { result.rows.ghost_name ≡ rows.entry.ghost_name }
+        ensures lent { lent result ≡ rows.entry.ghost_name }
     {
         Sheet { rows, used: 0 }
+    }
+
+    // The rows that the sheet holds.
+    pub fn rows(&self) -> &[Row]
+        ensures rows { result.now ≡ held self.now }
+        ensures few { length result.now ≤ 128 }
+    {
+        &self.rows[..self.used]
     }
 
     fn is_listed(&self, pair: u16) -> bool
         ensures listed { result ≡ listed pair (held self.now) }
     {
-        for i in 0..self.used {
-            let row = self.rows[i];
-            if row.ns == pair || row.ew == pair {
-                return true;
-            }
-        }
-        false
+        self.rows()
+            .iter()
+            .any(|row| row.ns == pair || row.ew == pair)
     }
 
     fn pairs_fit(&self, ns: u16, ew: u16) -> bool
         ensures fit { result ≡ pairs_fit (held self.now) ns ew }
     {
-        if ns < 1 || ns > 999 || ew < 1 || ew > 999 || ns == ew {
-            return false;
-        }
-        if self.is_listed(ns) {
-            return false;
-        }
-        !self.is_listed(ew)
+        is_pair(ns) && is_pair(ew) && ns != ew && !self.is_listed(ns) && !self.is_listed(ew)
     }
 
     // Puts a row behind the others: is there space, are the pairs new, is the score one of a board?
     pub fn add(&mut self, row: Row) -> Result<(), Refusal>
         ensures answer { result ≡ ruling (length (memory self.old)) (held self.old) row }
         ensures rows { held self.new ≡ (if is_ok result then held self.old ++ row ∷ [] else held self.old) }
-        ensures memory { memory self.new ≡ (if is_ok result then slice_set (memory self.old) self.old.used row else memory self.old) }
-        ensures lent { self.new.rows.ghost_name ≡ self.old.rows.ghost_name }
+        ensures memory { memory self.new ≡ (if is_ok result then slice_set (memory self.old) (length (held self.old)) row else memory self.old) }
+        ensures lent { lent self.new ≡ lent self.old }
     {
         let used = self.used;
         if used >= MOST_ROWS || used >= self.rows.len() {
@@ -77,9 +81,6 @@ impl<'a> Sheet<'a> {
     pub fn row(&self, i: usize) -> Result<Row, Refusal>
         ensures answer { result ≡ row_at (held self.now) i }
     {
-        if i >= self.used {
-            return Err(Refusal::NoRow);
-        }
-        Ok(self.rows[i])
+        self.rows().get(i).copied().ok_or(Refusal::NoRow)
     }
 }

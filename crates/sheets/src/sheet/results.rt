@@ -1,67 +1,68 @@
 // Results, under any rule of comparison.
-ghost use Rattle.std.specs.Prelude.{◌≡◌, ◌-◌, ◌*◌, ◌/◌, ◌^◌, ◌<◌, ◌≤◌, length, take, drop, unsigned_abs};
+ghost use Rattle.std.specs.Prelude.{◌≡◌, ◌-◌, ◌*◌, ◌/◌, ◌^◌, ◌<◌, ◌≤◌, length, unsigned_abs};
 ghost use Rattle.sheets.specs.Results.{against, answered, result_of, sum_of, shared, AddsUp};
-ghost use Rattle.sheets.specs.Sheets.{held, memory};
+ghost use Rattle.sheets.specs.Sheets.{held};
 
 use super::Sheet;
 use crate::comparisons::Comparison;
-use crate::rows::Refusal;
+use crate::rows::{Refusal, Row};
+
+// What a score gets against each of the rows, added up.
+fn against<C: Comparison>(score: i32, rows: &[Row]) -> i64
+    requires { length rows.now ≤ 128 }
+    ensures sum { result ≡ against C.Comparison.compared score rows.now }
+    ensures bound { unsigned_abs result ≤ 2 ^ 38 }
+{
+    let mut sum: i64 = 0;
+    for row in rows {
+        sum += i64::from(C::compare(score, row.score));
+    }
+    sum
+}
+
+// The result of one of the rows: its sum against all others.
+fn result_at<C: Comparison>(rows: &[Row], i: usize) -> i64
+    requires row { i < length rows.now }
+    requires few { length rows.now ≤ 128 }
+    ensures result { result ≡ result_of C.Comparison.compared rows.now i }
+    ensures bound { unsigned_abs result ≤ 2 ^ 39 }
+{
+    let score = rows[i].score;
+    against::<C>(score, &rows[..i]) + against::<C>(score, &rows[i + 1..])
+}
 
 impl<'a> Sheet<'a> {
-    // What a score gets against the rows from one place on, up to another.
-    fn sum_against<C: Comparison>(&self, score: i32, from: usize, to: usize) -> i64
-        requires { (from ≤ to) × (to ≤ self.now.used) }
-        ensures sum { result ≡ against C.Comparison.compared score (drop from (take to (memory self.now))) }
-        ensures bound { unsigned_abs result ≤ 2 ^ 38 }
-    {
-        let mut sum: i64 = 0;
-        for j in from..to {
-            let row = self.rows[j];
-            sum += C::compare(score, row.score) as i64;
-        }
-        sum
-    }
-
-    fn result_at<C: Comparison>(&self, i: usize) -> i64
-        requires { i < self.now.used }
-        ensures result { result ≡ result_of C.Comparison.compared (held self.now) i }
-        ensures bound { unsigned_abs result ≤ 2 ^ 39 }
-    {
-        let row = self.rows[i];
-        let before = self.sum_against::<C>(row.score, 0, i);
-        let after = self.sum_against::<C>(row.score, i + 1, self.used);
-        before + after
-    }
-
     // The result of a row, counted from 0: its sum against all other rows.
     pub fn result<C: Comparison>(&self, i: usize) -> Result<i64, Refusal>
         ensures answer { result ≡ answered C.Comparison.compared (held self.now) i }
     {
-        if i >= self.used {
+        let rows = self.rows();
+        if i >= rows.len() {
             return Err(Refusal::NoRow);
         }
-        Ok(self.result_at::<C>(i))
+        Ok(result_at::<C>(rows, i))
     }
 
     // The sum of all results: by the law, the rule's total for each two rows.
     pub fn sum<C: Comparison>(&self) -> i64
         ensures sum { result ≡ sum_of C.Comparison.compared (held self.now) }
-        ensures shared { result ≡ shared C.Comparison.total (length (held self.now)) }
-        ensures law { AddsUp C.Comparison.compared C.Comparison.total }
+        ensures shared { result ≡ shared C.Comparison.TOTAL (length (held self.now)) }
+        ensures law { AddsUp C.Comparison.compared C.Comparison.TOTAL }
     {
+        let rows = self.rows();
         let mut sum: i64 = 0;
-        for i in 0..self.used {
-            sum += self.result_at::<C>(i);
+        for i in 0..rows.len() {
+            sum += result_at::<C>(rows, i);
         }
         sum
     }
 
     // What the results have to add up to: the rule's total for each two rows.
     pub fn share<C: Comparison>(&self) -> i64
-        ensures share { result ≡ shared C.Comparison.total (length (held self.now)) }
+        ensures share { result ≡ shared C.Comparison.TOTAL (length (held self.now)) }
     {
-        let rows = self.used;
+        let rows = self.rows().len();
         let meetings = rows * rows.saturating_sub(1) / 2;
-        C::total_points() as i64 * meetings as i64
+        i64::from(C::TOTAL) * meetings as i64
     }
 }

@@ -1,17 +1,13 @@
-use Rattle.std.proofs.Common.{arith}
-use Rattle.std.proofs.lemmas.Bool.Decides.{nat_tests}
-use Rattle.sheets.specs.Comparisons.{limits}
-use Rattle.sheets.proofs.Steps.{reached_more, reached_all, imp_count_is, table}
+use Rattle.std.proofs.Common.{◌≡◌, refl, ap, ◌∙◌, count_by, leb, rules}
+use Rattle.sheets.specs.Comparisons.{imp_count}
 use Rattle.sheets.proofs.comparisons.imps_for.Goals as goal
 
-pub loop-limit-init : goal.loop-limit-init
-loop-limit-init c = (omega arith, omega (arith, imp_count_is c.args.size))
+pub returns-clause-count : goal.returns-clause-count
+unfolding imp_count
+returns-clause-count c =
+    let e : c.count.result ≡ count_by (λ limit. leb limit c.args.size) c.iter.result.rest.now = search rules in
+    e ∙ ap (count_by (λ limit. leb limit c.args.size)) c.iter.ensures.rest
 
-pub loop-limit-preserved : goal.loop-limit-preserved
-loop-limit-preserved c =
-    let e = reached_more c.args.size limits c.loop-limit.limit-index (omega arith) in grind (arith, nat_tests)
-
-pub returns : goal.returns
-returns c =
-    let e = reached_all c.args.size limits c.loop-limit.limit-index (omega arith) in
-    record { count = omega arith; bound = omega arith; table = table }
+pub returns-clause-table : goal.returns-clause-table
+unfolding imp_count
+returns-clause-table c = (refl, refl)

@@ -1,0 +1,16 @@
+use Rattle.std.proofs.Common.{◌≡◌, take, drop, ◌+◌, arith, w32, SFits, rules}
+use Rattle.std.proofs.lemmas.Int.{ints, to_z-of_z}
+use Rattle.std.proofs.lemmas.List.{take_rest}
+use Rattle.sheets.specs.Results.{score_at, against}
+use Rattle.sheets.proofs.Sums.{result_split}
+use Rattle.sheets.proofs.sheet.results.result_at.Goals as goal
+
+pub returns-clause-result : goal.returns-clause-result
+returns-clause-result g c =
+    let f = g.C.Comparison.compared in
+    let score = score_at c.args.rows.now c.args.i in
+    let fits : SFits w32 score = search rules in
+    let before : c.against.result ≡ against f score (take c.args.i c.args.rows.now) = simp to_z-of_z at c.against.ensures.sum in
+    let after : c.against-2.result ≡ against f score (drop (c.args.i + 1) c.args.rows.now) = simp (to_z-of_z, take_rest) at c.against-2.ensures.sum in
+    let split = result_split f c.args.rows.now c.args.i in
+    omega (arith, ints)
