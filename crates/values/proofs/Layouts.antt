@@ -11,7 +11,7 @@ use Rattle.faults.specs.declared.Fault.TheVariants.{MalformedDeal, RepeatedCard,
 use Rattle.tags.specs.Searches.{Found}
 use Rattle.tags.specs.Tags.{and_then}
 use Rattle.values.specs.declared.deals.Cursor.{Cursor}
-use Rattle.values.specs.Cursors.{Layout, cards_from, layout, outcome}
+use Rattle.values.specs.Cursors.{Layout, cards_from, laid_as, layout, outcome}
 use Rattle.values.specs.Deals.{Placed, both, card_named, cards_placed, deal_read, hands_in, laid, placed_at, repeats, undealt}
 use Rattle.values.specs.Letters.{chair_named}
 use Rattle.values.proofs.Parts.{hands_by}
@@ -54,5 +54,6 @@ undealt_is : undealt ≡ replicate 52 4
 unfolding undealt
 undealt_is = refl
 
-pub deal_judged : (f : Found) (l : Option Layout) → l ≡ layout (replicate 52 4) false (cards_placed f.value) → deal_read f ≡ judged f.line l
-deal_judged f l e = judged_as f (cards_placed f.value) refl ∙ ap (λ d. judged f.line (layout d false (cards_placed f.value))) undealt_is ∙ ap (judged f.line) (sym e)
+-- what comes of a deal that is laid out, and the answer whether a card repeats
+pub deal_judged : (f : Found) (o : Option Bool) (d : List ℕ) → laid_as o d ≡ layout (replicate 52 4) false (cards_placed f.value) → deal_read f ≡ judged f.line (laid_as o d)
+deal_judged f o d e = judged_as f (cards_placed f.value) refl ∙ ap (λ t. judged f.line (layout t false (cards_placed f.value))) undealt_is ∙ ap (judged f.line) (sym e)

@@ -2,14 +2,17 @@
 --     cards_from n x s text      the cards that a text places from the suit s of chair x on, with n hands after this one
 --     layout d again o           the cards o laid on the deal d, and whether one repeats, or `again` says so
 --     outcome k d text           what comes of a text that the cursor k stands before, with d laid so far
-use Rattle.std.specs.Prelude.{ℕ, ◌-◌, Bool, true, false, cond, List, [], ◌∷◌, is_some, Some, None, Ok, Err, Option, Result, ◌==◌}
+--     done r, filled old r       the answer to a Deal tag that is read so, and what the caller's 52 bytes hold after it
+use Rattle.std.specs.Prelude.{ℕ, ◌-◌, Bool, true, false, cond, List, [], ◌∷◌, is_some, Some, None, Ok, Option, Result, ◌==◌}
 use Rattle.std.specs.Option.{option_map}
+use Rattle.std.specs.Result.{result_unwrap_or}
 use Rattle.cards.specs.declared.chairs.Chair.{Chair}
 use Rattle.cards.specs.declared.suits.Suit.{Suit}
 use Rattle.cards.specs.declared.suits.Suit.TheVariants.{Spades}
 use Rattle.cards.specs.Chairs.{next}
 use Rattle.cards.specs.Suits.{lower}
 use Rattle.faults.specs.declared.Fault.{Fault}
+use Rattle.faults.specs.Questions.{then}
 use Rattle.tags.specs.Tags.{and_then}
 use Rattle.values.specs.declared.deals.Cursor.{Cursor}
 use Rattle.values.specs.Deals.{Placed, both, card_named, laid, placed_at, repeats}
@@ -41,9 +44,7 @@ laid_as r d = option_map (λ again. record { deal = d; again = again }) r
 
 -- what reading answers, and what the caller's bytes hold: a refusal leaves them
 abbrev pub done : {A : Type 0} → Result A Fault → Result Unit Fault
-done (Ok a) = Ok tt
-done (Err e) = Err e
+done r = then r (λ _. Ok tt)
 
 abbrev pub filled : List ℕ → Result (List ℕ) Fault → List ℕ
-filled old (Ok new) = new
-filled old (Err e) = old
+filled old r = result_unwrap_or r old

@@ -1,5 +1,5 @@
 // Deals: the value of a Deal tag, laid out card by card.
-ghost use Rattle.std.specs.Prelude.{◌≡◌, ℕ, ◌<◌, false, List, [], ◌∷◌, Some, MatchOption, ◌≢◌};
+ghost use Rattle.std.specs.Prelude.{◌≡◌, ℕ, ◌<◌, false, List, [], ◌∷◌, Some, IfSome, ◌≢◌};
 ghost use Rattle.tags.specs.Views.{found};
 ghost use Rattle.values.specs.Deals.{card_named, cards_placed, deal_read};
 ghost use Rattle.values.specs.Cursors.{outcome, start, layout, laid_as, done, filled};
@@ -12,19 +12,20 @@ use cards::suits::Suit;
 use faults::Fault;
 use tags::Found;
 
-// In place of a chair, where no card has been laid.
+// In place of a chair, where no card has been laid; a deal is 52 bytes, and no chair has this one.
 const NOBODY: u8 = 4;
 
 // The card of a suit and a rank's letter.
 fn card_named(suit: Suit, letter: char) -> Option<u8>
     ensures card { result ≡ card_named suit letter }
-    ensures small { MatchOption result (⊥ → ⊥) (λ c. c < 52) }
+    ensures small { IfSome result (λ c. c < 52) }
 {
     card(suit, rank_named(letter)?)
 }
 
 // How far a deal is read: how many hands come after this one, whose hand it is, at which suit it
-// stands, and whether a card has repeated.
+// stands, and whether a card has repeated. Reading goes on after that, since a deal that is malformed
+// further on is refused as malformed.
 #[derive(Clone, Copy)]
 struct Cursor {
     left: u8,
@@ -73,7 +74,7 @@ impl Cursor {
         requires { (byte ≢ 32) × (byte ≢ 46) }
         ensures reads { (text : List ℕ) → outcome result laid.new text ≡ outcome (Some self) laid.old (byte ∷ text) }
     {
-        let card = card_named(self.suit, byte as char)? as usize;
+        let card = usize::from(card_named(self.suit, char::from(byte))?);
         let repeated = self.repeated || laid[card] != NOBODY;
         laid[card] = self.chair.code();
         Some(Cursor { repeated, ..self })
@@ -113,8 +114,23 @@ fn lay_out(value: &[u8], laid: &mut [u8; 52]) -> Option<bool>
     let [letter, b':', hands @ ..] = value else {
         return None;
     };
-    let first = chair_named(*letter as char)?;
+    let first = chair_named(char::from(*letter))?;
     lay_out_hands(hands, first, laid)
+}
+
+// Layer 3's questions on a deal: byte c of the answer names the chair that gets the card c.
+fn deal_in(tag: Found) -> Result<[u8; 52], Fault>
+    ensures deal { result ≡ deal_read (found tag.entry) }
+{
+    let mut laid = [NOBODY; 52];
+    let repeated = lay_out(tag.value, &mut laid).ok_or(Fault::MalformedDeal { line: tag.line })?;
+    if repeated {
+        return Err(Fault::RepeatedCard { line: tag.line });
+    }
+    if !is_thirteen_each(&laid) {
+        return Err(Fault::UnevenHands { line: tag.line });
+    }
+    Ok(laid)
 }
 
 // Layer 3's questions on a deal. Byte c of `deal` then names the chair that gets the card c; a refusal
@@ -123,16 +139,6 @@ pub fn read_deal(tag: Found, deal: &mut [u8; 52]) -> Result<(), Fault>
     ensures answer { result ≡ done (deal_read (found tag.entry)) }
     ensures bytes { deal.new ≡ filled deal.old (deal_read (found tag.entry)) }
 {
-    let mut laid = [NOBODY; 52];
-    let Some(repeated) = lay_out(tag.value, &mut laid) else {
-        return Err(Fault::MalformedDeal { line: tag.line });
-    };
-    if repeated {
-        return Err(Fault::RepeatedCard { line: tag.line });
-    }
-    if !is_thirteen_each(&laid) {
-        return Err(Fault::UnevenHands { line: tag.line });
-    }
-    *deal = laid;
+    *deal = deal_in(tag)?;
     Ok(())
 }

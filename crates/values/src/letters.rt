@@ -4,7 +4,6 @@ ghost use Rattle.values.specs.Letters.{chair_letter, chair_named, dealer_named, 
 
 use cards::boards::Vulnerability;
 use cards::chairs::Chair;
-use tags::is_same;
 
 const RANKS: [u8; 13] = *b"23456789TJQKA";
 
@@ -24,10 +23,7 @@ pub fn chair_letter(chair: Chair) -> u8
 pub fn rank_letter(rank: u8) -> u8
     ensures letter { result ≡ rank_letter rank }
 {
-    if rank > 12 {
-        return 0;
-    }
-    RANKS[rank as usize]
+    RANKS.get(usize::from(rank)).copied().unwrap_or(0)
 }
 
 // The chair of a letter.
@@ -72,22 +68,18 @@ pub fn dealer_named(value: &[u8]) -> Option<Chair>
     let [letter] = value else {
         return None;
     };
-    chair_named(*letter as char)
+    chair_named(char::from(*letter))
 }
 
 // What the value of a Vulnerable tag says.
 pub fn vulnerability_named(value: &[u8]) -> Option<Vulnerability>
     ensures vulnerability { result ≡ vulnerability_named value.now }
 {
-    if is_same(value, b"None") {
-        Some(Vulnerability::Neither)
-    } else if is_same(value, b"NS") {
-        Some(Vulnerability::NorthSouth)
-    } else if is_same(value, b"EW") {
-        Some(Vulnerability::EastWest)
-    } else if is_same(value, b"All") {
-        Some(Vulnerability::Both)
-    } else {
-        None
+    match value {
+        b"None" => Some(Vulnerability::Neither),
+        b"NS" => Some(Vulnerability::NorthSouth),
+        b"EW" => Some(Vulnerability::EastWest),
+        b"All" => Some(Vulnerability::Both),
+        _ => None,
     }
 }
