@@ -76,7 +76,7 @@ impl Cursor {
     {
         let card = usize::from(card_named(self.suit, char::from(byte))?);
         let repeated = self.repeated || laid[card] != NOBODY;
-        laid[card] = self.chair.code();
+        laid[card] = self.chair.into();
         Some(Cursor { repeated, ..self })
     }
 
