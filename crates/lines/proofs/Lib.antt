@@ -1,1 +1,2 @@
+pub mod EndMarks
 pub mod FirstLines

@@ -1,5 +1,6 @@
 -- Layer 2 of reading: the questions put to the tags of a file.
 --     tags_checked ls            24 if a line opened by `[` is no tag line
+--     found_in w l               the tag of the line l, if it has one of the name w, with the offset at which it starts
 --     named w ls                 the tags named w, each with the offset at which its line starts
 --     only fs                    the one tag that was found, or 25
 use Rattle.std.specs.Prelude.{ℕ, cond, List, [], ◌∷◌, Some, None, Ok, Err, Option, Result}
@@ -8,7 +9,7 @@ use Rattle.faults.specs.declared.Fault.{Fault}
 use Rattle.faults.specs.declared.Fault.TheVariants.{MalformedTag, TagNotOnce}
 use Rattle.faults.specs.Questions.{then, unless}
 use Rattle.lines.specs.Lines.{Line}
-use Rattle.tags.specs.Tags.{Tag, tag_of, well_formed}
+use Rattle.tags.specs.Tags.{Tag, and_then, tag_of, well_formed}
 
 abbrev pub tags_checked : List Line → Result Unit Fault
 tags_checked [] = Ok tt
@@ -18,6 +19,9 @@ tags_checked (l ∷ ls) = then (unless (well_formed l.text) (MalformedTag l.star
 pub record Found : Type 0 where
   pub line : ℕ
   pub value : List ℕ
+
+abbrev pub found_in : List ℕ → Line → Option Found
+found_in w l = and_then (tag_of l.text) (λ t. cond (bytes_eq t.name w) (Some (record { line = l.start; value = t.value })) None)
 
 -- a line's tag put before those of the lines after it, if it has one of the name w
 abbrev pub noted : List ℕ → ℕ → Option Tag → List Found → List Found

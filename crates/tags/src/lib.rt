@@ -2,16 +2,17 @@
 
 #![tactic(auto)]
 
-ghost use Rattle.std.specs.Prelude.{◌≡◌, List};
+ghost use Rattle.std.specs.Prelude.{◌≡◌};
 ghost use Rattle.std.specs.Option.{option_map};
 ghost use Rattle.std.specs.Str.{bytes_eq};
 ghost use Rattle.lines.specs.Lines.{lines};
+ghost use Rattle.lines.specs.Walks.{seen};
 ghost use Rattle.tags.specs.Tags.{behind, is_name_byte, is_plain_byte, tag_of, well_formed};
-ghost use Rattle.tags.specs.Searches.{Found as found, tags_checked, named, noted, only};
-ghost use Rattle.tags.specs.Views.{told, founds, outcome};
+ghost use Rattle.tags.specs.Searches.{tags_checked, found_in, named, only};
+ghost use Rattle.tags.specs.Views.{told, found, founds};
 
 use faults::Fault;
-use lines::{Line, next_line};
+use lines::{Line, Lines};
 use runs::{Alphabet, run_length};
 
 const LONGEST_NAME: usize = 31;
@@ -30,10 +31,7 @@ impl Alphabet for NameBytes {
     ghost admits = { is_name_byte };
 
     fn contains(byte: u8) -> bool {
-        match byte {
-            b'A'..=b'Z' | b'a'..=b'z' | b'0'..=b'9' | b'_' => true,
-            _ => false,
-        }
+        matches!(byte, b'A'..=b'Z' | b'a'..=b'z' | b'0'..=b'9' | b'_')
     }
 }
 
@@ -81,12 +79,10 @@ fn is_well_formed(text: &[u8]) -> bool
 pub fn check_tags(file: &[u8]) -> Result<(), Fault>
     ensures answer { result ≡ tags_checked (lines 0 file.now) }
 {
-    let mut at = 0;
-    while let Some(line) = next_line(file, at) {
+    for line in Lines::of(file) {
         if !is_well_formed(line.text) {
             return Err(Fault::MalformedTag { line: line.start });
         }
-        at = line.next;
     }
     Ok(())
 }
@@ -98,14 +94,6 @@ pub struct Found<'a> {
     pub value: &'a [u8],
 }
 
-// How often a tag occurs, as far as was looked.
-#[derive(Clone, Copy)]
-enum Search<'a> {
-    Never,
-    Once(Found<'a>),
-    Often,
-}
-
 // Are two texts the same, byte for byte?
 pub fn is_same(name: &[u8], other: &[u8]) -> bool
     ensures same { result ≡ bytes_eq name.now other.now }
@@ -113,37 +101,28 @@ pub fn is_same(name: &[u8], other: &[u8]) -> bool
     name == other
 }
 
-// What is found once a line more was looked at.
-fn note<'a>(search: Search<'a>, line: Line<'a>, name: &[u8]) -> Search<'a>
-    ensures noted { (fs : List found) → outcome result fs ≡ outcome search.entry (noted name.now line.entry.start (tag_of line.entry.text.now) fs) }
+// The tag that a line holds, if it has the name.
+fn found_in<'a>(line: Line<'a>, name: &[u8]) -> Option<Found<'a>>
+    ensures found { option_map found result ≡ found_in name.now (seen line.entry) }
 {
-    let Some(tag) = parse_tag(line.text) else {
-        return search;
-    };
-    if !is_same(tag.name, name) {
-        return search;
-    }
-    match search {
-        Search::Never => Search::Once(Found {
-            line: line.start,
-            value: tag.value,
-        }),
-        _ => Search::Often,
-    }
+    let tag = parse_tag(line.text)?;
+    (tag.name == name).then_some(Found {
+        line: line.start,
+        value: tag.value,
+    })
 }
 
 // The one tag of a name; the second question of layer 2 asks that there is just one.
 pub fn find<'a>(file: &'a [u8], name: &[u8]) -> Result<Found<'a>, Fault>
     ensures answer { founds result ≡ only (named name.now (lines 0 file.now)) }
 {
-    let mut search = Search::Never;
-    let mut at = 0;
-    while let Some(line) = next_line(file, at) {
-        search = note(search, line, name);
-        at = line.next;
+    let mut found = None;
+    for line in Lines::of(file) {
+        if let Some(tag) = found_in(line, name) {
+            if found.replace(tag).is_some() {
+                return Err(Fault::TagNotOnce);
+            }
+        }
     }
-    match search {
-        Search::Once(found) => Ok(found),
-        _ => Err(Fault::TagNotOnce),
-    }
+    found.ok_or(Fault::TagNotOnce)
 }

@@ -3,7 +3,7 @@
 #![tactic(auto)]
 
 use input::{MOST, fill};
-use lines::next_line;
+use lines::Lines;
 use sheets::comparisons::{Imps, Matchpoints};
 use sheets::rows::Row;
 use sheets::sheet::Sheet;
@@ -14,10 +14,7 @@ const ROWS: usize = 128;
 
 // Adds a row for each line, and says which lines are refused.
 fn add_slips(rt: &HostRuntime, sheet: &mut Sheet, slips: &[u8]) -> io::Result<()> {
-    let mut at = 0;
-    let mut count: u32 = 0;
-    while let Some(line) = next_line(slips, at) {
-        count = count.saturating_add(1);
+    for (count, line) in (1u64..).zip(Lines::of(slips)) {
         match read_slip(line.text) {
             Some(row) => {
                 if let Err(refusal) = sheet.add(row) {
@@ -27,7 +24,6 @@ fn add_slips(rt: &HostRuntime, sheet: &mut Sheet, slips: &[u8]) -> io::Result<()
             }
             None => println!(rt; "% row {count} is not three numbers")?,
         }
-        at = line.next;
     }
     Ok(())
 }

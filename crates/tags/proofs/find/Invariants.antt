@@ -1,11 +1,16 @@
-use Rattle.std.proofs.Common.{◌≡◌, ◌-◌, length, drop}
+use Rattle.std.proofs.Common.{◌≡◌, List, Option, Some, None, Result}
+use Rattle.std.specs.Option.{option_map}
+use Rattle.faults.specs.declared.Fault.{Fault}
 use Rattle.lines.specs.Lines.{lines}
-use Rattle.tags.specs.Searches.{named, only}
-use Rattle.tags.specs.Views.{outcome}
+use Rattle.lines.specs.Walks.{lines_left}
+use Rattle.tags.specs.Searches.{Found, named, alone, only}
+use Rattle.tags.specs.Views.{found}
 use Rattle.tags.proofs.find.Given as goal
 
-abbrev pub invariant-loop-line : goal.invariant-loop-line
-invariant-loop-line l = outcome l.search (named l.name (lines l.at (drop l.at l.file))) ≡ only (named l.name (lines 0 l.file))
+-- what comes of a search that has found f so far, with the tags fs still to come
+abbrev pub outcome : Option Found → List Found → Result Found Fault
+outcome None fs = only fs
+outcome (Some f) fs = alone f fs
 
-abbrev pub decreases-loop-line : goal.decreases-loop-line
-decreases-loop-line l = length l.file - l.at
+abbrev pub invariant-loop-line : goal.invariant-loop-line
+invariant-loop-line l = outcome (option_map found l.found) (named l.name (lines_left l.line-iterator)) ≡ only (named l.name (lines 0 l.file))
