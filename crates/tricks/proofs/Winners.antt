@@ -1,16 +1,16 @@
 -- Who wins a trick.
-use Rattle.std.proofs.Common.{◌≡◌, ℕ, zero, suc, ◌-◌, ◌/◌, ◌<◌, ◌≤◌, true, false, eqb, ◌⊎◌, List, [], ◌∷◌, ◌++◌, length, take, drop, sym, refl, ap, ◌∙◌, subst, ap₂, inl, inr, not-suc-le-zero, arith}
-use Rattle.std.proofs.lemmas.List.{append_assoc, append-nil, get_or_append_left, get_or_push, length_push, take_all}
+use Rattle.std.proofs.Common.{◌≡◌, ℕ, zero, suc, ◌/◌, ◌<◌, ◌≤◌, true, false, eqb, ◌⊎◌, List, [], ◌∷◌, ◌++◌, length, sym, refl, ap, ◌∙◌, subst, ap₂, inl, inr, not-suc-le-zero, arith}
+use Rattle.std.proofs.lemmas.List.{append_assoc, append-nil, get_or_append_left, get_or_push, length_push}
 use Rattle.std.proofs.lemmas.Bool.{both_ways, cases_lt, eqb-false, eqb-true, false≢true, ltb-false, ltb-true}
 use Rattle.cards.specs.declared.chairs.Chair.{Chair}
 use Rattle.cards.specs.declared.suits.Denomination.{Denomination}
 use Rattle.cards.specs.declared.suits.Denomination.TheVariants.{Trumps, NoTrump}
-use Rattle.cards.specs.Chairs.{ahead, next}
+use Rattle.cards.specs.Chairs.{ahead}
 use Rattle.cards.specs.Suits.{code}
 use Rattle.cards.proofs.Turns.{ahead_push}
 use Rattle.cards.proofs.Ways.{by}
 use Rattle.tricks.specs.Laws.{Highest, HighestWins, card_at}
-use Rattle.tricks.specs.Tricks.{beats, is_trump, same_suit, winner, winner_from}
+use Rattle.tricks.specs.Tricks.{beats, is_trump, same_suit, winner_from}
 
 -- trumps are the cards of one suit
 trump_suit : (t : Denomination) (a b : ℕ) → is_trump t a ≡ true → is_trump t b ≡ true → a / 13 ≡ b / 13
@@ -122,8 +122,3 @@ alone t c = record {
 pub highest_wins : HighestWins
 highest_wins t l [] h = absurd (not-suc-le-zero h)
 highest_wins t l (c ∷ rest) h = wins_from t l rest (c ∷ []) 0 (alone t c)
-
--- the winner, from the first card and the others
-pub winner_split : (t : Denomination) (l : Chair) (cs : List ℕ) → 0 < length cs → winner t l cs ≡ winner_from t l (card_at cs 0) (next l) (take (length cs - 1) (drop 1 cs))
-winner_split t l [] h = absurd (not-suc-le-zero h)
-winner_split t l (c ∷ rest) h = ap (winner_from t l c (next l)) (sym (take_all (length (c ∷ rest) - 1) rest (omega arith)))

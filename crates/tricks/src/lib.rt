@@ -10,7 +10,7 @@ ghost use Rattle.tricks.specs.Tricks.{beats, is_trump, led, progress, winner};
 
 use cards::chairs::Chair;
 use cards::hands::holds;
-use cards::pack::suit;
+use cards::pack;
 use cards::suits::{Denomination, Suit};
 use hands::{is_void, lowest, lowest_of};
 use rulings::Irregularity;
@@ -19,57 +19,61 @@ use rulings::Irregularity;
 fn is_of(suit: Suit, card: u8) -> bool
     ensures suit { result ≡ is_of suit card }
 {
-    card / 13 == suit.code()
+    pack::suit(card) == Some(suit)
 }
 
-// Does a card from this hand follow suit, as far as it has to?
-fn follows(led: Option<Suit>, hand: u64, card: u8) -> bool
-    ensures follows { result ≡ follows led hand card }
-{
-    match led {
-        None => true,
-        Some(suit) => is_of(suit, card) || is_void(hand, suit),
-    }
+// A chair's turn to play: the hand it plays from, and the suit led; none at a lead.
+#[derive(Clone, Copy)]
+pub struct Turn {
+    pub led: Option<Suit>,
+    pub hand: u64,
 }
 
-// The ruling on a card from a hand, by the suit led; none at a lead.
-pub fn ruling(led: Option<Suit>, hand: u64, card: u8) -> Result<(), Irregularity>
-    ensures ruling { ruling result ≡ card_ruling led hand card }
-{
-    if card >= 52 {
-        return Err(Irregularity::NoSuchAct);
+impl Turn {
+    // Does the card follow suit, as far as it has to?
+    fn follows(self, card: u8) -> bool
+        ensures follows { result ≡ follows self.led self.hand card }
+    {
+        self.led
+            .is_none_or(|suit| is_of(suit, card) || is_void(self.hand, suit))
     }
-    if !holds(hand, card) {
-        return Err(Irregularity::CardNotHeld);
-    }
-    if !follows(led, hand, card) {
-        return Err(Irregularity::Revoke);
-    }
-    Ok(())
-}
 
-// The lowest card of a hand, by its number, that is lawful; none only if the hand is empty.
-pub fn lowest_legal(led: Option<Suit>, hand: u64) -> Option<u8>
-    ensures card { result ≡ lowest_legal led hand }
-    ensures legal { Legal }
-{
-    match led {
-        None => lowest(hand),
-        Some(suit) if is_void(hand, suit) => lowest(hand),
-        Some(suit) => lowest_of(hand, suit),
+    // The ruling on a card played from the hand.
+    pub fn ruling(self, card: u8) -> Result<(), Irregularity>
+        ensures ruling { ruling result ≡ card_ruling self.led self.hand card }
+    {
+        if card >= 52 {
+            return Err(Irregularity::NoSuchAct);
+        }
+        if !holds(self.hand, card) {
+            return Err(Irregularity::CardNotHeld);
+        }
+        if !self.follows(card) {
+            return Err(Irregularity::Revoke);
+        }
+        Ok(())
+    }
+
+    // The lowest card of the hand, by its number, that is lawful; none only if the hand is empty.
+    pub fn lowest_legal(self) -> Option<u8>
+        ensures card { result ≡ lowest_legal self.led self.hand }
+        ensures legal { Legal }
+    {
+        match self.led {
+            Some(suit) if !is_void(self.hand, suit) => lowest_of(self.hand, suit),
+            _ => lowest(self.hand),
+        }
     }
 }
 
 fn is_trump(trumps: Denomination, card: u8) -> bool
     ensures trump { result ≡ is_trump trumps card }
 {
-    match trumps {
-        Denomination::Trumps(suit) => is_of(suit, card),
-        Denomination::NoTrump => false,
-    }
+    matches!(trumps, Denomination::Trumps(suit) if is_of(suit, card))
 }
 
 // Does the card beat the best card before it: higher in its suit, or a trump on another?
+// Suits are compared by number, since cards are bytes, and those above 51 have numbers but no suits.
 fn beats(trumps: Denomination, best: u8, card: u8) -> bool
     ensures beats { result ≡ beats trumps best card }
 {
@@ -85,13 +89,13 @@ pub fn winner(trumps: Denomination, leader: Chair, trick: &[u8]) -> Chair
     ensures winner { result ≡ winner trumps leader trick.now }
     ensures highest { HighestWins }
 {
-    if trick.is_empty() {
+    let [first, rest @ ..] = trick else {
         return leader;
-    }
+    };
     let mut by = leader;
-    let mut best = trick[0];
+    let mut best = *first;
     let mut turn = leader;
-    for card in &trick[1..] {
+    for card in rest {
         turn = turn.next();
         if beats(trumps, best, *card) {
             by = turn;
@@ -105,10 +109,7 @@ pub fn winner(trumps: Denomination, leader: Chair, trick: &[u8]) -> Chair
 pub fn led(cards: &[u8]) -> Option<Suit>
     ensures suit { result ≡ led cards.now }
 {
-    if cards.len() % 4 == 0 {
-        return None;
-    }
-    suit(cards[4 * (cards.len() / 4)])
+    pack::suit(*cards.chunks_exact(4).remainder().first()?)
 }
 
 // Where play stands: who leads the trick in progress, and how many tricks declarer's side has won.
@@ -126,11 +127,9 @@ impl Progress {
     {
         let mut leader = declarer.next();
         let mut won = 0;
-        for k in 0..cards.len() / 4 {
-            leader = winner(trumps, leader, &cards[4 * k..4 * k + 4]);
-            if leader.same_side(declarer) {
-                won += 1;
-            }
+        for trick in cards.chunks_exact(4) {
+            leader = winner(trumps, leader, trick);
+            won += usize::from(leader.same_side(declarer));
         }
         Progress { leader, won }
     }

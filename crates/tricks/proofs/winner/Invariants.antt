@@ -1,10 +1,8 @@
-use Rattle.std.proofs.Common.{◌≡◌, ◌-◌, length, take, drop}
+use Rattle.std.proofs.Common.{◌≡◌, drop}
 use Rattle.cards.specs.Chairs.{next}
-use Rattle.tricks.specs.Tricks.{winner_from}
+use Rattle.tricks.specs.Tricks.{winner, winner_from}
 use Rattle.tricks.proofs.winner.Given as goal
 
 -- the best card so far and the cards to come give the winner
 abbrev pub invariant-loop-card : goal.invariant-loop-card
-invariant-loop-card l =
-    winner_from l.trumps l.by l.best (next l.turn) (drop l.card-index (take (length l.trick - 1) (drop 1 l.trick)))
-    ≡ winner_from l.trumps l.initial.by l.initial.best (next l.initial.turn) (take (length l.trick - 1) (drop 1 l.trick))
+invariant-loop-card l = winner_from l.trumps l.by l.best (next l.turn) (drop l.card-index l.rest) ≡ winner l.trumps l.fn.leader l.trick

@@ -1,10 +1,17 @@
-use Rattle.std.proofs.Common.{◌≡◌, ◌≤◌}
+use Rattle.std.proofs.Common.{◌≡◌, ◌*◌, ◌≤◌, length, drop}
+use Rattle.std.specs.Slice.Iter.{chunks_exact_rest, chunks_exact_size}
 use Rattle.tricks.specs.Tricks.{leader, won}
 use Rattle.tricks.proofs.Progress.of.Given as goal
 
--- the first k tricks
-abbrev pub invariant-loop-k : goal.invariant-loop-k
-invariant-loop-k l =
-    (l.leader ≡ leader l.trumps l.initial.leader l.cards l.k)
-    × (l.won ≡ won l.trumps l.initial.leader l.cards l.declarer l.k)
-    × (l.won ≤ l.k)
+-- the tricks so far
+abbrev pub invariant-loop-trick : goal.invariant-loop-trick
+invariant-loop-trick l =
+    let k = length l.yielded in
+    record {
+      by_four : chunks_exact_size l.trick-iterator ≡ 4;
+      to_come : chunks_exact_rest l.trick-iterator ≡ drop (4 * k) l.cards;
+      whole : 4 * k ≤ length l.cards;
+      leads : l.leader ≡ leader l.trumps l.initial.leader l.cards k;
+      wins : l.won ≡ won l.trumps l.initial.leader l.cards l.declarer k;
+      few : l.won ≤ k;
+    }
