@@ -14,12 +14,6 @@ mod tests {
     use sheets::sheet::Sheet;
     use std::test::Fail;
 
-    const BLANK: Row = Row {
-        ns: 0,
-        ew: 0,
-        score: 0,
-    };
-
     fn row(ns: u16, ew: u16, score: i32) -> Row {
         Row { ns, ew, score }
     }
@@ -47,9 +41,10 @@ mod tests {
 
     #[test]
     fn a_traveller(rt: HostRuntime) {
-        let mut rows = [BLANK; 8];
+        let mut rows = [Row::default(); 8];
         let mut sheet = Sheet::new(&mut rows);
         for (i, (score, _)) in TRAVELLER.iter().enumerate() {
+            // No From leads from usize to u16; with (1..=8).zip(..) it was not proved that pair + 20 fits.
             let pair = i as u16 + 1;
             assert_eq!(rt; sheet.add(row(pair, pair + 20, *score)), Ok(()));
         }
@@ -63,17 +58,12 @@ mod tests {
     }
 
     fn is_blank(rows: &[Row]) -> bool {
-        for row in rows {
-            if *row != BLANK {
-                return false;
-            }
-        }
-        true
+        rows.iter().all(|row| *row == Row::default())
     }
 
     #[test]
     fn no_memory_and_no_rows(rt: HostRuntime) {
-        let mut none = [BLANK; 0];
+        let mut none = [Row::default(); 0];
         let mut sheet = Sheet::new(&mut none);
         assert_eq!(rt; sheet.add(row(1, 2, 620)), Err(Refusal::NoSpace));
         assert_eq!(rt; sheet.result::<Imps>(0), Err(Refusal::NoRow));
@@ -82,7 +72,7 @@ mod tests {
 
     #[test]
     fn refused_rows(rt: HostRuntime) {
-        let mut rows = [BLANK; 3];
+        let mut rows = [Row::default(); 3];
         let mut sheet = Sheet::new(&mut rows);
         for (ns, ew, score, refusal) in [
             (0, 7, 620, Refusal::WrongPairs),
@@ -101,7 +91,7 @@ mod tests {
 
     #[test]
     fn three_rows(rt: HostRuntime) {
-        let mut rows = [BLANK; 3];
+        let mut rows = [Row::default(); 3];
         let mut sheet = Sheet::new(&mut rows);
         assert_eq!(rt; sheet.add(row(1, 999, 7600)), Ok(()));
         assert_eq!(rt; sheet.result::<Matchpoints>(0), Ok(0));
@@ -119,7 +109,7 @@ mod tests {
 
     #[test]
     fn at_most_128_rows(rt: HostRuntime) {
-        let mut rows = [BLANK; 130];
+        let mut rows = [Row::default(); 130];
         let mut sheet = Sheet::new(&mut rows);
         for i in 0..128u16 {
             assert_eq!(rt; sheet.add(row(i + 1, i + 501, 0)), Ok(()));
@@ -127,7 +117,7 @@ mod tests {
         assert_eq!(rt; sheet.add(row(400, 401, 0)), Err(Refusal::NoSpace));
         assert_eq!(rt; sheet.result::<Matchpoints>(127), Ok(127));
         assert_eq!(rt; sheet.sum::<Matchpoints>(), 16_256);
-        assert_eq!(rt; rows[128], BLANK);
+        assert_eq!(rt; rows[128], Row::default());
     }
 
     // The difference at which each IMP begins.
@@ -139,13 +129,14 @@ mod tests {
     #[test]
     fn imps_at_each_limit(rt: HostRuntime) {
         for (i, limit) in LIMITS.iter().enumerate() {
+            // As above: with (1..=24).zip(..) it was not proved that -points fits.
             let points = i as i32 + 1;
-            assert_eq!(rt; <Imps as Comparison>::compare(*limit, 0), points);
-            assert_eq!(rt; <Imps as Comparison>::compare(0, *limit), -points);
-            assert_eq!(rt; <Imps as Comparison>::compare(*limit, 10), points - 1);
+            assert_eq!(rt; Imps::compare(*limit, 0), points);
+            assert_eq!(rt; Imps::compare(0, *limit), -points);
+            assert_eq!(rt; Imps::compare(*limit, 10), points - 1);
         }
-        assert_eq!(rt; <Matchpoints as Comparison>::compare(-50, -100), 2);
-        assert_eq!(rt; <Matchpoints as Comparison>::compare(-100, -100), 1);
+        assert_eq!(rt; Matchpoints::compare(-50, -100), 2);
+        assert_eq!(rt; Matchpoints::compare(-100, -100), 1);
     }
 
     #[test]
