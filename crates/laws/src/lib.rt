@@ -9,9 +9,9 @@ ghost use Rattle.rulings.specs.Rulings.{ruling};
 
 use auctions::Standing;
 use cards::chairs::Chair;
-use cards::suits::Suit;
 use hands::{dealt, remaining};
 use rulings::Irregularity;
+use tricks::Turn;
 
 // The asked chair and the chair acted from: the chair in turn, but declarer is asked for dummy's
 // cards. Nobody is declarer until the auction is over.
@@ -35,14 +35,14 @@ pub fn hand_left(deal: &[u8; 52], cards: &[u8], chair: Chair) -> u64
     remaining(dealt(deal, chair), cards)
 }
 
-// The ruling on an act: a call while the auction lasts, and then a card from a hand, by the suit led.
-pub fn ruling(standing: Standing, led: Option<Suit>, hand: u64, act: u8) -> Result<(), Irregularity>
-    ensures ruling { ruling result ≡ act_ruling standing led hand act }
+// The ruling on an act: a call while the auction lasts, and then a card at a turn to play.
+pub fn ruling(standing: Standing, turn: Turn, act: u8) -> Result<(), Irregularity>
+    ensures ruling { ruling result ≡ act_ruling standing turn.led turn.hand act }
     ensures lasts { AtMost371 }
     ensures way { WayOn }
 {
     if standing.is_over() {
-        tricks::ruling(led, hand, act)
+        turn.ruling(act)
     } else {
         standing.ruling(act)
     }
