@@ -1,7 +1,7 @@
 // The play of a board, trick by trick.
 ghost use Rattle.std.specs.Prelude.{◌≡◌, [], ◌∷◌, length};
 ghost use Rattle.archive.specs.Records.{card_by, card_text, played_rows, trick_columns, trick_rows};
-ghost use Rattle.text.specs.Pages.{Wrote};
+ghost use Rattle.text.specs.Bytes.{Wrote};
 ghost use Rattle.tricks.specs.Tricks.{tricks_in};
 ghost use Rattle.writer.specs.Texts.{text};
 
@@ -29,7 +29,7 @@ fn put_card_of(page: &mut Page, trick: &[u8], leader: Chair, chair: Chair)
     ensures wrote { Wrote (card_text (card_by leader trick.now chair)) page.old page.new }
 {
     let place = (chair.code() + 4 - leader.code()) % 4;
-    put_card(page, trick[place as usize]);
+    put_card(page, trick[usize::from(place)]);
 }
 
 // A trick as a row: the opening leader's card in the first column, then clockwise.

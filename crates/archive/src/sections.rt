@@ -1,7 +1,6 @@
 // The lines of a record behind those of its game.
 ghost use Rattle.std.specs.Prelude.{◌≡◌, ◌<◌, map, Some, None};
-ghost use Rattle.std.specs.Fmt.{signed_decimal};
-ghost use Rattle.text.specs.Pages.{Wrote};
+ghost use Rattle.text.specs.Bytes.{Wrote};
 ghost use Rattle.writer.specs.Texts.{text};
 ghost use Rattle.archive.specs.Records.{auction_lines, doubling_text, outcome_lines, rows, terms_text};
 ghost use Rattle.archive.specs.Words.{end_of_word};
@@ -16,16 +15,6 @@ use scoring::contracts::{Contract, Doubling};
 use text::page::Page;
 use values::letters::chair_letter;
 use writer::put_tag;
-
-// A number with a minus sign or without.
-fn put_signed(page: &mut Page, number: i32)
-    ensures wrote { Wrote (signed_decimal number) page.old page.new }
-{
-    if number < 0 {
-        page.put(b'-');
-    }
-    page.put_decimal(number.unsigned_abs() as u64);
-}
 
 fn put_doubling(page: &mut Page, doubling: Doubling)
     ensures wrote { Wrote (doubling_text doubling) page.old page.new }
@@ -62,11 +51,11 @@ pub(crate) fn put_outcome(page: &mut Page, outcome: Outcome)
     put_contract(page, outcome.contract);
     page.put_all(b"\"]\n");
     page.put_all(b"[Result \"");
-    page.put_decimal(outcome.tricks as u64);
+    page.put_decimal(outcome.tricks);
     page.put_all(b"\"]\n");
     page.put_all(b"[Score \"");
     page.put_all(b"NS ");
-    put_signed(page, outcome.score);
+    page.put_decimal(outcome.score);
     page.put_all(b"\"]\n");
 }
 

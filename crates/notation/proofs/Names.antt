@@ -1,9 +1,8 @@
 -- Calls and their texts.
-use Rattle.std.proofs.Common.{◌≡◌, ℕ, ◌-◌, ◌≤◌, cond, List, [], ◌∷◌, length, get_or, take, drop, Some, None, Option, sym, refl, ap, ◌∙◌, inl, inr, arith}
+use Rattle.std.proofs.Common.{◌≡◌, ℕ, ◌-◌, cond, List, [], ◌∷◌, Some, None, Option, sym, refl, ap, ◌∙◌, inl, inr, arith}
 use Rattle.std.specs.Str.{bytes_eq}
 use Rattle.std.proofs.lemmas.List.FromFn.{get_or-map-range_with_len}
 use Rattle.std.proofs.lemmas.Slice.Eq.{bytes_eq-Decides}
-use Rattle.std.proofs.lemmas.List.{take_rest}
 use Rattle.std.proofs.lemmas.Bool.{cases_Bool}
 use Rattle.std.proofs.lemmas.Bool.Decides.{nat_tests}
 use Rattle.cards.specs.declared.suits.Denomination.{Denomination}
@@ -17,10 +16,6 @@ use Rattle.notation.specs.Notation.{bid_named, call_named, call_text, denominati
 -- of the 38 calls, both lists are computed, and they are the same
 pub reads_back : ReadsBack
 reads_back a l = sym (get_or-map-range_with_len (λ n. call_named (call_text n)) 0 38 a a None l (omega arith)) ∙ get_or-map-range_with_len Some 0 38 a a None l (omega arith)
-
-pub bid_parts : (w : List ℕ) → 1 ≤ length w → bid_named w ≡ and_then (denomination_named (take (length w - 1) (drop 1 w))) (bid_of (get_or w 0 0 - 48))
-bid_parts [] l = absurd (omega arith)
-bid_parts (b ∷ bs) l = ap (λ t. and_then (denomination_named t) (bid_of (b - 48))) (sym (take_rest (b ∷ bs) 1))
 
 -- what is named is told by the word
 abbrev Told : {A : Type 0} → (A → List ℕ) → List ℕ → Option A → Type 0

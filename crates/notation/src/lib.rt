@@ -3,31 +3,25 @@
 #![tactic(auto)]
 
 ghost use Rattle.std.specs.Prelude.{◌≡◌};
-ghost use Rattle.text.specs.Pages.{Wrote};
+ghost use Rattle.text.specs.Bytes.{Wrote};
 ghost use Rattle.notation.specs.Laws.{NamedOnly, ReadsBack};
 ghost use Rattle.notation.specs.Notation.{bid_named, call_named, call_text, denomination_named, denomination_text};
 
 use cards::calls::{DOUBLE, PASS, REDOUBLE, bid, denomination, level};
 use cards::suits::{Denomination, Suit};
-use tags::is_same;
 use text::page::Page;
 
 // The denomination that a word names.
 fn denomination_named(word: &[u8]) -> Option<Denomination>
     ensures denomination { result ≡ denomination_named word.now }
 {
-    if is_same(word, b"C") {
-        Some(Denomination::Trumps(Suit::Clubs))
-    } else if is_same(word, b"D") {
-        Some(Denomination::Trumps(Suit::Diamonds))
-    } else if is_same(word, b"H") {
-        Some(Denomination::Trumps(Suit::Hearts))
-    } else if is_same(word, b"S") {
-        Some(Denomination::Trumps(Suit::Spades))
-    } else if is_same(word, b"NT") {
-        Some(Denomination::NoTrump)
-    } else {
-        None
+    match word {
+        b"C" => Some(Denomination::Trumps(Suit::Clubs)),
+        b"D" => Some(Denomination::Trumps(Suit::Diamonds)),
+        b"H" => Some(Denomination::Trumps(Suit::Hearts)),
+        b"S" => Some(Denomination::Trumps(Suit::Spades)),
+        b"NT" => Some(Denomination::NoTrump),
+        _ => None,
     }
 }
 
@@ -47,14 +41,11 @@ pub fn call_named(word: &[u8]) -> Option<u8>
     ensures reads_back { ReadsBack }
     ensures named_only { NamedOnly }
 {
-    if is_same(word, b"Pass") {
-        Some(PASS)
-    } else if is_same(word, b"X") {
-        Some(DOUBLE)
-    } else if is_same(word, b"XX") {
-        Some(REDOUBLE)
-    } else {
-        bid_named(word)
+    match word {
+        b"Pass" => Some(PASS),
+        b"X" => Some(DOUBLE),
+        b"XX" => Some(REDOUBLE),
+        _ => bid_named(word),
     }
 }
 

@@ -4,9 +4,9 @@ use Rattle.std.proofs.lemmas.List.{length-append}
 use Rattle.faults.specs.declared.Fault.{Fault}
 use Rattle.reader.specs.Reading.{Game, file_read}
 use Rattle.reader.specs.Views.{deal_in, number_in}
-use Rattle.text.proofs.Writes.{kept_whole, then}
-use Rattle.text.specs.declared.page.Page.{Page}
-use Rattle.text.specs.Pages.{Wrote, kept, written}
+use Rattle.text.proofs.Writes.{alone, then}
+use Rattle.text.specs.declared.bytes.Bytes.{Bytes}
+use Rattle.text.specs.Bytes.{Wrote, written}
 use Rattle.writer.specs.Texts.{fault_line, game_lines, text}
 use Rattle.writer.proofs.Lines.{text_both}
 use Rattle.reply.specs.Replies.{reply_lines, reply_to}
@@ -20,12 +20,12 @@ fault_lines : (g : Result Game Fault) (f : Fault) → Err f ≡ number_in g → 
 fault_lines (Ok g) f e = let z : ◌≡◌ {A = ℕ} 0 1 = cc in absurd (omega arith)
 fault_lines (Err x) f e = let same : f ≡ x = cc in ap (λ y. fault_line y ∷ []) same
 
-on_page : {a b c : Page} (ls : List (List ℕ)) → written a ≡ [] → Wrote (text ls) a b → Wrote (10 ∷ []) b c → length (text ls) ≤ 400 → written c ≡ text (ls ++ ([] ∷ []))
+on_page : {a b c : Bytes 2048} (ls : List (List ℕ)) → written a ≡ [] → Wrote (text ls) a b → Wrote (10 ∷ []) b c → length (text ls) ≤ 400 → written c ≡ text (ls ++ ([] ∷ []))
 on_page ls empty p q short =
     let few : length (text ls ++ (10 ∷ [])) ≤ 2048 = simp length-append (omega arith) in
-    (then p q).text ∙ ap (λ w. kept (w ++ (text ls ++ (10 ∷ [])))) empty ∙ kept_whole (text ls ++ (10 ∷ [])) few ∙ sym (text_both ls ([] ∷ []))
+    alone empty few (then p q) ∙ sym (text_both ls ([] ∷ []))
 
-module _ (file : List ℕ) {a b c : Page} (empty : written a ≡ []) where
+module _ (file : List ℕ) {a b c : Bytes 2048} (empty : written a ≡ []) where
   pub game_replied : (n : ℕ) (old d : List ℕ) → Ok n ≡ number_in (file_read file) → d ≡ deal_in old (file_read file)
       → Wrote (text (game_lines n d)) a b → Wrote (10 ∷ []) b c → length (text (game_lines n d)) ≤ 400 → written c ≡ reply_to file
   unfolding reply_to

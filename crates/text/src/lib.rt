@@ -1,5 +1,6 @@
-// Text that is written into memory of its own, with no allocator.
+// Bytes in memory of their own, with no allocator, and the text that is written there.
 
 #![tactic(auto)]
 
+pub mod bytes;
 pub mod page;

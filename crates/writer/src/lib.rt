@@ -2,36 +2,17 @@
 
 #![tactic(auto)]
 
-ghost use Rattle.std.specs.Prelude.{◌≡◌, ◌<◌, ◌≤◌, [], ◌∷◌, length};
-ghost use Rattle.text.specs.Pages.{Wrote};
-ghost use Rattle.values.specs.Letters.{chair_letter, rank_letter, vulnerability_word};
-ghost use Rattle.writer.specs.Texts.{text, tag_line, suit_text, hand_text, deal_text, tag_lines, game_lines, fault_text, fault_line};
+ghost use Rattle.std.specs.Prelude.{◌≡◌, ◌≤◌, [], ◌∷◌, length};
+ghost use Rattle.text.specs.Bytes.{Wrote};
+ghost use Rattle.values.specs.Letters.{vulnerability_word};
+ghost use Rattle.writer.specs.Texts.{text, tag_line, suit_text, hand_text, deal_text, tag_lines, game_lines, fault_line};
 
 use cards::boards::{Vulnerability, dealer_of, vulnerability_of};
 use cards::chairs::Chair;
 use cards::suits::Suit;
 use faults::Fault;
 use text::page::Page;
-
-const RANKS: [u8; 13] = *b"23456789TJQKA";
-
-fn rank_letter(rank: u8) -> u8
-    requires { rank < 13 }
-    ensures letter { result ≡ rank_letter rank }
-{
-    RANKS[rank as usize]
-}
-
-fn chair_letter(chair: Chair) -> u8
-    ensures letter { result ≡ chair_letter chair }
-{
-    match chair {
-        Chair::North => b'N',
-        Chair::East => b'E',
-        Chair::South => b'S',
-        Chair::West => b'W',
-    }
-}
+use values::letters::{chair_letter, rank_letter};
 
 fn vulnerability_word(vulnerability: Vulnerability) -> &'static [u8]
     ensures word { result.now ≡ vulnerability_word vulnerability }
@@ -51,7 +32,7 @@ fn put_suit(page: &mut Page, deal: &[u8; 52], chair: Chair, suit: Suit)
     let to = chair.code();
     let lowest = 13 * suit.code();
     for rank in (0..13u8).rev() {
-        if deal[(lowest + rank) as usize] == to {
+        if deal[usize::from(lowest + rank)] == to {
             page.put(rank_letter(rank));
         }
     }
@@ -110,7 +91,7 @@ pub fn put_tags(
     ensures short { length (text (tag_lines number dealer vulnerability deal.now)) ≤ 400 }
 {
     page.put_all(b"[Board \"");
-    page.put_decimal(number as u64);
+    page.put_decimal(number);
     page.put_all(b"\"]\n");
     put_tag(page, b"Dealer", &[chair_letter(dealer)]);
     put_tag(page, b"Vulnerable", vulnerability_word(vulnerability));
@@ -133,23 +114,16 @@ pub fn put_game(page: &mut Page, number: u8, deal: &[u8; 52])
     );
 }
 
-fn put_fault_line(page: &mut Page, layer: u8, number: u8, offset: usize)
-    ensures wrote { Wrote (text (fault_text layer number offset ∷ [])) page.old page.new }
-    ensures short { length (text (fault_text layer number offset ∷ [])) ≤ 100 }
-{
-    page.put_all(b"% fault ");
-    page.put_decimal(layer as u64);
-    page.put(b' ');
-    page.put_decimal(number as u64);
-    page.put(b' ');
-    page.put_decimal(offset as u64);
-    page.put(b'\n');
-}
-
 // The line that names a fault by its layer, its number and its offset.
 pub fn put_fault(page: &mut Page, fault: Fault)
     ensures wrote { Wrote (text (fault_line fault ∷ [])) page.old page.new }
     ensures short { length (text (fault_line fault ∷ [])) ≤ 100 }
 {
-    put_fault_line(page, fault.layer(), fault.number(), fault.offset());
+    page.put_all(b"% fault ");
+    page.put_decimal(fault.layer());
+    page.put(b' ');
+    page.put_decimal(fault.number());
+    page.put(b' ');
+    page.put_decimal(fault.offset());
+    page.put(b'\n');
 }

@@ -9,13 +9,13 @@ loop-rank-init c = ([], nothing _, refl)
 pub loop-rank-preserved : goal.loop-rank-preserved
 loop-rank-preserved c =
     let l = c.loop-rank in
-    (l.invariant.0, l.invariant.1, without_card c.args.deal.now c.code-to.result (13 * c.code-lowest.result) l.rank (omega arith) (omega arith) l.invariant.0 _ c.if-deal-lowest.false l.invariant.2)
+    (l.invariant.0, l.invariant.1, without_card c.args.deal.now _ _ l.rank (omega arith) (omega arith) l.invariant.0 _ (rw (← c.from.ensures) c.if-deal-from.false) l.invariant.2)
 
-pub loop-rank-preserved-then-deal-lowest : goal.loop-rank-preserved-then-deal-lowest
-loop-rank-preserved-then-deal-lowest c =
+pub loop-rank-preserved-then-deal-from : goal.loop-rank-preserved-then-deal-from
+loop-rank-preserved-then-deal-from c =
     let l = c.loop-rank in
     let letter = told (ap (λ (b : ℕ). b ∷ []) c.rank_letter.ensures.letter) c.put.ensures.wrote in
-    (_, then l.invariant.1 letter, with_one_card c.args.deal.now c.code-to.result (13 * c.code-lowest.result) l.rank (omega arith) (omega arith) l.invariant.0 _ c.if-deal-lowest.true l.invariant.2)
+    (_, then l.invariant.1 letter, with_one_card c.args.deal.now _ _ l.rank (omega arith) (omega arith) l.invariant.0 _ (rw (← c.from.ensures) c.if-deal-from.true) l.invariant.2)
 
 pub returns : goal.returns
 returns c =

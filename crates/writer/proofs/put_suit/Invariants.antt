@@ -1,5 +1,5 @@
 use Rattle.std.proofs.Common.{◌≡◌, ℕ, List, ◌++◌}
-use Rattle.text.specs.Pages.{Wrote}
+use Rattle.text.specs.Bytes.{Wrote}
 use Rattle.writer.specs.Texts.{ranks_below}
 use Rattle.writer.proofs.put_suit.Given as goal
 

@@ -1,5 +1,5 @@
 use Rattle.std.proofs.Common.{◌≡◌}
-use Rattle.text.specs.Pages.{Wrote}
+use Rattle.text.specs.Bytes.{Wrote}
 use Rattle.tricks.specs.Tricks.{leader}
 use Rattle.writer.specs.Texts.{text}
 use Rattle.archive.specs.Records.{trick_rows}

@@ -1,6 +1,6 @@
 use Rattle.std.proofs.Common.{◌≡◌, ℕ, List, ◌++◌, map, length, drop}
 use Rattle.notation.specs.Notation.{call_text}
-use Rattle.text.specs.Pages.{Wrote}
+use Rattle.text.specs.Bytes.{Wrote}
 use Rattle.archive.specs.Words.{in_rows}
 use Rattle.archive.proofs.sections.put_calls.Given as goal
 

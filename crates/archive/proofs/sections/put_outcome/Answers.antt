@@ -20,5 +20,5 @@ returns c =
     let first = told (ap (λ (b : ℕ). text (tag_line (codes "Declarer") (b ∷ []) ∷ [])) c.chair_letter.ensures.letter) c.put_tag.ensures.wrote in
     let second = tag_put (codes "Contract") (terms_text (terms o.contract)) c.put_all.ensures.wrote c.put_contract.ensures.wrote c.put_all-2.ensures.wrote in
     let third = tag_put (codes "Result") (decimal o.tricks) c.put_all-3.ensures.wrote c.put_decimal.ensures.wrote c.put_all-4.ensures.wrote in
-    let fourth = tag_put (codes "Score") (score_text (said o)) c.put_all-5.ensures.wrote (then c.put_all-6.ensures.wrote (told (ap signed_decimal same) c.put_signed.ensures.wrote)) c.put_all-7.ensures.wrote in
+    let fourth = tag_put (codes "Score") (score_text (said o)) c.put_all-5.ensures.wrote (then c.put_all-6.ensures.wrote (told (ap signed_decimal same) c.put_decimal-2.ensures.wrote)) c.put_all-7.ensures.wrote in
     record { wrote = more_lines (tag_line (codes "Declarer") (chair_letter o.declarer ∷ [])) (contract ∷ result ∷ score ∷ []) first (more_lines contract (result ∷ score ∷ []) second (more_lines result (score ∷ []) third fourth)) }
