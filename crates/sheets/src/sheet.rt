@@ -6,7 +6,10 @@ use crate::rows::Row;
 pub mod entries;
 pub mod results;
 
-// The rows lie in lent memory, whose owner finds them there after the sheet: so a slice with a length beside it, and no `Vec`.
+// The most rows that a sheet holds, however long its memory.
+pub const MOST_ROWS: usize = 128;
+
+// The memory is its owner's, who finds the rows there after the sheet: so a slice with a length beside it, and no `Vec`.
 #[derive(Drop)]
 pub struct Sheet<'a> {
     rows: &'a mut [Row],

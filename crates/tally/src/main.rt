@@ -6,11 +6,10 @@ use input::{MOST, fill};
 use lines::Lines;
 use sheets::comparisons::{Imps, Matchpoints};
 use sheets::rows::Row;
-use sheets::sheet::Sheet;
+use sheets::sheet::{MOST_ROWS, Sheet};
 use slips::read_slip;
 use std::io;
 
-const ROWS: usize = 128;
 
 // Adds a row for each line, and says which lines are refused.
 fn add_slips(rt: &HostRuntime, sheet: &mut Sheet, slips: &[u8]) -> io::Result<()> {
@@ -59,7 +58,7 @@ fn main(rt: HostRuntime) -> io::Result<()> {
     if length == MOST {
         return println!(rt; "% the input is longer than 65535 bytes");
     }
-    let mut rows = [Row::default(); ROWS];
+    let mut rows = [Row::default(); MOST_ROWS];
     let mut sheet = Sheet::new(&mut rows);
     add_slips(&rt, &mut sheet, &bytes[0..length])?;
     print_results(&rt, &sheet)

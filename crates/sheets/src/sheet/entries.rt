@@ -3,10 +3,8 @@ ghost use Rattle.std.specs.Prelude.{◌≡◌, [], ◌∷◌, ◌++◌, ◌≤�
 ghost use Rattle.sheets.specs.Rows.{is_pair, listed, pairs_fit, row_at, score_fits, ruling};
 ghost use Rattle.sheets.specs.Sheets.{held, lent, memory};
 
-use super::Sheet;
+use super::{MOST_ROWS, Sheet};
 use crate::rows::{Refusal, Row};
-
-const MOST_ROWS: usize = 128;
 
 fn is_pair(pair: u16) -> bool
     ensures pair { result ≡ is_pair pair }
@@ -70,6 +68,7 @@ impl<'a> Sheet<'a> {
         if !score_fits(row.score) {
             return Err(Refusal::WrongScore);
         }
+        // The lent memory is written field by field.
         self.rows[used].ns = row.ns;
         self.rows[used].ew = row.ew;
         self.rows[used].score = row.score;

@@ -13,6 +13,7 @@ fn against<C: Comparison>(score: i32, rows: &[Row]) -> i64
     ensures sum { result ≡ against C.Comparison.compared score rows.now }
     ensures bound { unsigned_abs result ≤ 2 ^ 38 }
 {
+    // A loop, since a chain that ends in `sum` leaves the bound of a signed sum unproved.
     let mut sum: i64 = 0;
     for row in rows {
         sum += i64::from(C::compare(score, row.score));
@@ -31,7 +32,7 @@ fn result_at<C: Comparison>(rows: &[Row], i: usize) -> i64
     against::<C>(score, &rows[..i]) + against::<C>(score, &rows[i + 1..])
 }
 
-impl<'a> Sheet<'a> {
+impl Sheet<'_> {
     // The result of a row, counted from 0: its sum against all other rows.
     pub fn result<C: Comparison>(&self, i: usize) -> Result<i64, Refusal>
         ensures answer { result ≡ answered C.Comparison.compared (held self.now) i }
@@ -50,6 +51,7 @@ impl<'a> Sheet<'a> {
         ensures law { AddsUp C.Comparison.compared C.Comparison.TOTAL }
     {
         let rows = self.rows();
+        // A row's result leaves that row out, so it is asked for by its place.
         let mut sum: i64 = 0;
         for i in 0..rows.len() {
             sum += result_at::<C>(rows, i);
