@@ -30,15 +30,11 @@ fn read_tags<'a>(file: &'a [u8]) -> Result<Header<'a>, Fault>
     ensures answer { headers result ≡ tags_read (lines 0 file.now) }
 {
     check_tags(file)?;
-    let board = find(file, b"Board")?;
-    let dealer = find(file, b"Dealer")?;
-    let vulnerable = find(file, b"Vulnerable")?;
-    let deal = find(file, b"Deal")?;
     Ok(Header {
-        board,
-        dealer,
-        vulnerable,
-        deal,
+        board: find(file, b"Board")?,
+        dealer: find(file, b"Dealer")?,
+        vulnerable: find(file, b"Vulnerable")?,
+        deal: find(file, b"Deal")?,
     })
 }
 
@@ -46,35 +42,31 @@ fn read_tags<'a>(file: &'a [u8]) -> Result<Header<'a>, Fault>
 fn is_dealer(value: &[u8], number: u8) -> bool
     ensures dealer { result ≡ is_dealer value.now number }
 {
-    match dealer_named(value) {
-        Some(chair) => chair.code() == dealer_of(number).code(),
-        None => false,
-    }
+    dealer_named(value) == Some(dealer_of(number))
 }
 
 // Does the text name the board's vulnerability?
 fn is_vulnerability(value: &[u8], number: u8) -> bool
     ensures vulnerability { result ≡ is_vulnerability value.now number }
 {
-    match vulnerability_named(value) {
-        Some(vulnerability) => vulnerability.code() == vulnerability_of(number).code(),
-        None => false,
-    }
+    vulnerability_named(value) == Some(vulnerability_of(number))
 }
 
 // The board number, which the dealer and the vulnerability have to fit.
-fn read_number(board: Found, dealer: Found, vulnerable: Found) -> Result<u8, Fault>
-    ensures answer { result ≡ number_read (found board.entry) (found dealer.entry) (found vulnerable.entry) }
+fn read_number(header: Header) -> Result<u8, Fault>
+    ensures answer { result ≡ number_read (found header.entry.board) (found header.entry.dealer) (found header.entry.vulnerable) }
 {
-    let Some(number) = board_number(board.value) else {
-        return Err(Fault::NoBoardNumber { line: board.line });
-    };
-    if !is_dealer(dealer.value, number) {
-        return Err(Fault::WrongDealer { line: dealer.line });
+    let number = board_number(header.board.value).ok_or(Fault::NoBoardNumber {
+        line: header.board.line,
+    })?;
+    if !is_dealer(header.dealer.value, number) {
+        return Err(Fault::WrongDealer {
+            line: header.dealer.line,
+        });
     }
-    if !is_vulnerability(vulnerable.value, number) {
+    if !is_vulnerability(header.vulnerable.value, number) {
         return Err(Fault::WrongVulnerability {
-            line: vulnerable.line,
+            line: header.vulnerable.line,
         });
     }
     Ok(number)
@@ -85,7 +77,7 @@ fn read_values(header: Header, deal: &mut [u8; 52]) -> Result<u8, Fault>
     ensures answer { result ≡ number_in (values_read (told header.entry)) }
     ensures bytes { deal.new ≡ deal_in deal.old (values_read (told header.entry)) }
 {
-    let number = read_number(header.board, header.dealer, header.vulnerable)?;
+    let number = read_number(header)?;
     read_deal(header.deal, deal)?;
     Ok(number)
 }

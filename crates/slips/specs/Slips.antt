@@ -1,14 +1,13 @@
 -- Score slips. A slip is a line of three numbers, parted by spaces: the pair North-South, the pair East-West, and the score.
 --     word_in text, behind_word text     the first word of a text, and what follows it
---     natural most word                  the number that decimal digits make, if it is at most `most`
---     signed word                        the same below 2 ^ 31, with a minus sign or without
+--     signed word                        a number below 2 ^ 31 in decimal digits, with a minus sign or without
 --     slip text                          the row that a slip says
-use Rattle.std.specs.Prelude.{ℕ, ◌+◌, ◌-◌, ◌*◌, Bool, cond, not, List, [], ◌∷◌, length, take, drop, ℤ, pos, neg_ℤ, Some, None, Option, ◌==◌, nat_le}
+use Rattle.std.specs.Prelude.{ℕ, Bool, cond, not, List, [], ◌∷◌, length, take, drop, ℤ, pos, neg_ℤ, Some, None, Option, ◌==◌}
 use Rattle.std.specs.Option.{option_map}
 use Rattle.std.specs.List.{prefix_len}
 use Rattle.sheets.specs.declared.rows.Row.{Row}
 use Rattle.tags.specs.Tags.{and_then}
-use Rattle.values.specs.Numbers.{is_digit}
+use Rattle.values.specs.Numbers.{natural}
 
 abbrev pub is_space : ℕ → Bool
 is_space b = b == 32
@@ -24,14 +23,6 @@ word_in text = take (prefix_len is_ink (unspaced text)) (unspaced text)
 
 abbrev pub behind_word : List ℕ → List ℕ
 behind_word text = drop (prefix_len is_ink (unspaced text)) (unspaced text)
-
--- the digits behind a number so far
-abbrev pub digits_from : ℕ → ℕ → List ℕ → Option ℕ
-digits_from most v [] = Some v
-digits_from most v (b ∷ bs) = cond (is_digit b) (cond (nat_le (10 * v + (b - 48)) most) (digits_from most (10 * v + (b - 48)) bs) None) None
-
-abbrev pub natural : ℕ → List ℕ → Option ℕ
-natural most w = cond (length w == 0) None (digits_from most 0 w)
 
 abbrev pub signed : List ℕ → Option ℤ
 signed [] = None

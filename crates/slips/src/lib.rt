@@ -2,15 +2,15 @@
 
 #![tactic(auto)]
 
-ghost use Rattle.std.specs.Prelude.{◌≡◌, ◌^◌, ◌<◌, ◌≤◌, MatchOption};
-ghost use Rattle.slips.specs.Slips.{is_space, is_ink, word_in, behind_word, natural, signed, slip};
+ghost use Rattle.std.specs.Prelude.{◌≡◌};
+ghost use Rattle.slips.specs.Slips.{is_space, is_ink, word_in, behind_word, signed, slip};
 
 use runs::{Alphabet, run_length};
 use sheets::rows::Row;
-use values::numbers::is_digit;
+use values::numbers::natural;
 
 // The largest score that is read.
-const LARGEST: u32 = 2_147_483_647;
+const LARGEST: u32 = i32::MAX as u32;
 
 struct Spaces;
 
@@ -42,28 +42,6 @@ fn next_word<'a>(text: &'a [u8]) -> (&'a [u8], &'a [u8])
     words.split_at(run_length::<Ink>(words))
 }
 
-// A number in decimal digits, if it is no larger than `most`.
-fn natural(word: &[u8], most: u32) -> Option<u32>
-    requires { most < 2 ^ 31 }
-    ensures number { result ≡ natural most word.now }
-    ensures small { MatchOption result (⊥ → ⊥) (λ n. n ≤ most) }
-{
-    if word.is_empty() {
-        return None;
-    }
-    let mut number: u64 = 0;
-    for byte in word {
-        if !is_digit(*byte) {
-            return None;
-        }
-        number = 10 * number + (*byte - b'0') as u64;
-        if number > most as u64 {
-            return None;
-        }
-    }
-    Some(number as u32)
-}
-
 // A number with a minus sign or without.
 fn signed(word: &[u8]) -> Option<i32>
     ensures number { result ≡ signed word.now }
@@ -81,8 +59,8 @@ pub fn read_slip(text: &[u8]) -> Option<Row>
     let (first, rest) = next_word(text);
     let (second, rest) = next_word(rest);
     let (third, rest) = next_word(rest);
-    let ns = natural(first, 65_535)? as u16;
-    let ew = natural(second, 65_535)? as u16;
+    let ns = natural(first, u32::from(u16::MAX))? as u16;
+    let ew = natural(second, u32::from(u16::MAX))? as u16;
     let score = signed(third)?;
     let (fourth, _) = next_word(rest);
     if !fourth.is_empty() {

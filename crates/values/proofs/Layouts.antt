@@ -1,7 +1,7 @@
 -- A card laid out is the first of those still to be laid.
-use Rattle.std.proofs.Common.{◌≡◌, ℕ, ◌-◌, ◌<◌, ◌≤◌, Bool, true, false, cond, eqb, List, [], ◌∷◌, length, get_or, take, drop, set, replicate, Some, None, Ok, Err, Option, Result, sym, refl, ap, ◌∙◌, inl, inr, arith}
+use Rattle.std.proofs.Common.{◌≡◌, ℕ, ◌-◌, ◌<◌, ◌≤◌, Bool, true, false, cond, eqb, List, [], ◌∷◌, length, get_or, take, drop, set, replicate, Some, None, Ok, Err, Option, Result, sym, refl, ap, ◌∙◌, arith}
 use Rattle.std.proofs.lemmas.List.{get_or_default, take_rest}
-use Rattle.std.proofs.lemmas.Bool.{cases_Bool, eq-eqb, ne_eqb}
+use Rattle.std.proofs.lemmas.Bool.{eq-eqb, ne_eqb}
 use Rattle.cards.specs.declared.chairs.Chair.{Chair}
 use Rattle.cards.specs.declared.suits.Suit.TheVariants.{Spades}
 use Rattle.cards.specs.Chairs.{code}
@@ -12,14 +12,12 @@ use Rattle.tags.specs.Searches.{Found}
 use Rattle.tags.specs.Tags.{and_then}
 use Rattle.values.specs.declared.deals.Cursor.{Cursor}
 use Rattle.values.specs.Cursors.{Layout, cards_from, laid_as, layout, outcome}
-use Rattle.values.specs.Deals.{Placed, both, card_named, cards_placed, deal_read, hands_in, laid, placed_at, repeats, undealt}
+use Rattle.values.specs.Deals.{Placed, both, card_named, cards_placed, deal_read, hands_in, placed_at, undealt}
 use Rattle.values.specs.Letters.{chair_named}
 use Rattle.values.proofs.Parts.{hands_by}
 
 laid_first : (d : List ℕ) (again : Bool) (c : ℕ) (x : Chair) (o : Option (List Placed)) → layout d again (both (placed_at x (Some c)) o) ≡ layout (set d c (code x)) (cond (eqb (get_or d c 4) 4) again true) o
-laid_first d again c x None = refl
-laid_first d true c x (Some ps) = elim (cases_Bool (eqb (get_or d c 4) 4)) [ inl t ↦ simp t | inr t ↦ simp t ]
-laid_first d false c x (Some ps) = elim (cases_Bool (eqb (get_or d c 4) 4)) [ inl t ↦ simp t | inr t ↦ simp t ]
+laid_first d again c x o = grind arith
 
 pub card_laid : (k : Cursor) (d : List ℕ) (b c : ℕ) (text : List ℕ) → (b ≡ 32 → ⊥) → (b ≡ 46 → ⊥) → card_named k.suit b ≡ Some c → c < length d
     → outcome (Some k) d (b ∷ text) ≡ layout (set d c (code k.chair)) (cond (eqb (get_or d c 0) 4) k.repeated true) (cards_from k.left k.chair k.suit text)
@@ -45,10 +43,7 @@ judged_as : (f : Found) (o : Option (List Placed)) → cards_placed f.value ≡ 
 unfolding deal_read
 judged_as f None e = simp e
 judged_as f (Some ps) e =
-    elim (cases_Bool (repeats undealt ps)) [
-      | inl t ↦ simp (e, t)
-      | inr t ↦ elim (cases_Bool (thirteen_each (laid undealt ps))) [ inl u ↦ simp (e, t, u) | inr u ↦ simp (e, t, u) ]
-    ]
+    grind arith
 
 undealt_is : undealt ≡ replicate 52 4
 unfolding undealt

@@ -1,5 +1,5 @@
 -- Hands that are told by their parts are read byte by byte.
-use Rattle.std.proofs.Common.{◌≡◌, ℕ, ◌-◌, false, cond, eqb, List, [], ◌∷◌, is_some, Some, None, Option, sym, refl, ap, ◌∙◌, inl, inr}
+use Rattle.std.proofs.Common.{◌≡◌, ℕ, ◌-◌, false, cond, eqb, List, [], ◌∷◌, is_some, Some, None, Option, sym, refl, ap, ◌∙◌, inl, inr, arith}
 use Rattle.std.proofs.lemmas.List.{append_assoc, append-nil}
 use Rattle.std.proofs.lemmas.Bool.{cases_Bool, eqb-true}
 use Rattle.cards.specs.declared.chairs.Chair.{Chair}
@@ -15,22 +15,16 @@ abbrev Cards : Type 0
 Cards = Option (List Placed)
 
 both_assoc : (a b c : Cards) → both (both a b) c ≡ both a (both b c)
-both_assoc None b c = refl
-both_assoc (Some ps) None c = refl
-both_assoc (Some ps) (Some qs) None = refl
-both_assoc (Some ps) (Some qs) (Some rs) = ap Some (append_assoc ps qs rs)
+both_assoc a b c = grind (arith, append_assoc)
 
 none_before : (o : Cards) → both (Some []) o ≡ o
-none_before None = refl
-none_before (Some ps) = refl
+none_before o = grind arith
 
 none_after : (o : Cards) → both o (Some []) ≡ o
-none_after None = refl
-none_after (Some ps) = ap Some (append-nil ps)
+none_after o = grind (arith, append-nil)
 
 no_second : (o : Cards) → both o None ≡ None
-no_second None = refl
-no_second (Some ps) = refl
+no_second o = grind arith
 
 -- a text has a first part
 pub record Cut (ps : List (List ℕ)) : Type 0 where
@@ -62,34 +56,23 @@ hands_from n x s [] = None
 hands_from n x s (h ∷ hs) = both (suits_from x s (parts 46 h)) (cond (eqb n 0) (ended hs) (hands_from (n - 1) (next x) Spades hs))
 
 at_end : (n : ℕ) (x : Chair) (s : Suit) → hands_from n x s ([] ∷ []) ≡ cards_from n x s []
-at_end n x Clubs = none_before (cond (eqb n 0) (Some []) None)
-at_end n x Diamonds = refl
-at_end n x Hearts = refl
-at_end n x Spades = refl
+at_end n x s = grind (arith, none_before)
 
 at_space : (n : ℕ) (x : Chair) (s : Suit) (h : List ℕ) (hs : List (List ℕ)) → hands_from n x s ([] ∷ h ∷ hs) ≡ cond (is_some (lower s)) None (cond (eqb n 0) None (hands_from (n - 1) (next x) Spades (h ∷ hs)))
-at_space n x Clubs h hs = none_before (cond (eqb n 0) None (hands_from (n - 1) (next x) Spades (h ∷ hs)))
-at_space n x Diamonds h hs = refl
-at_space n x Hearts h hs = refl
-at_space n x Spades h hs = refl
+at_space n x s h hs = grind (arith, none_before)
 
 abbrev later : ℕ → Chair → List (List ℕ) → Cards
 later n x hs = cond (eqb n 0) (ended hs) (hands_from (n - 1) (next x) Spades hs)
 
 at_dot : (n : ℕ) (x : Chair) (s : Suit) (h : List ℕ) (hs : List (List ℕ)) → hands_from n x s ((46 ∷ h) ∷ hs) ≡ and_then (lower s) (λ u. hands_from n x u (h ∷ hs))
 at_dot n x Clubs h hs = let c = cut 46 h in simp c.is
-at_dot n x Diamonds h hs = ap (λ o. both o (later n x hs)) (none_before (suits_from x Clubs (parts 46 h)))
-at_dot n x Hearts h hs = ap (λ o. both o (later n x hs)) (none_before (suits_from x Diamonds (parts 46 h)))
-at_dot n x Spades h hs = ap (λ o. both o (later n x hs)) (none_before (suits_from x Hearts (parts 46 h)))
+at_dot n x s h hs = grind (arith, none_before)
 
 at_rank : (n : ℕ) (x : Chair) (s : Suit) (b : ℕ) (h : List ℕ) (hs : List (List ℕ)) → eqb b 46 ≡ false → hands_from n x s ((b ∷ h) ∷ hs) ≡ both (placed_at x (card_named s b)) (hands_from n x s (h ∷ hs))
 at_rank n x s b h hs t = let c = cut 46 h in simp (t, c.is, both_assoc)
 
 on_lower : (s : Suit) (f g : Suit → Cards) → ((u : Suit) → f u ≡ g u) → and_then (lower s) f ≡ and_then (lower s) g
-on_lower Clubs f g e = refl
-on_lower Diamonds f g e = e Clubs
-on_lower Hearts f g e = e Diamonds
-on_lower Spades f g e = e Hearts
+on_lower s f g e = grind (arith, e)
 
 by_bytes : (n : ℕ) (x : Chair) (s : Suit) (text : List ℕ) → hands_from n x s (parts 32 text) ≡ cards_from n x s text
 by_bytes n x s [] = at_end n x s
@@ -110,23 +93,13 @@ by_bytes n x s (b ∷ bs) =
     ]
 
 by_suits : (x : Chair) (ts : List (List ℕ)) → in_four (λ a b c d. both (suit_in x Spades a) (both (suit_in x Hearts b) (both (suit_in x Diamonds c) (suit_in x Clubs d)))) ts ≡ suits_from x Spades ts
-by_suits x [] = refl
-by_suits x (a ∷ []) = simp no_second
-by_suits x (a ∷ b ∷ []) = simp no_second
-by_suits x (a ∷ b ∷ c ∷ []) = simp no_second
-by_suits x (a ∷ b ∷ c ∷ d ∷ []) = simp none_after
-by_suits x (a ∷ b ∷ c ∷ d ∷ e ∷ es) = simp no_second
+by_suits x ts = grind (arith, no_second, none_after)
 
 hand_by : (x : Chair) (h : List ℕ) → hand_in x h ≡ suits_from x Spades (parts 46 h)
 hand_by x h = by_suits x (parts 46 h)
 
 by_hands : (x : Chair) (hs : List (List ℕ)) → in_four (λ a b c d. both (hand_in x a) (both (hand_in (next x) b) (both (hand_in (next (next x)) c) (hand_in (next (next (next x))) d)))) hs ≡ hands_from 3 x Spades hs
-by_hands x [] = refl
-by_hands x (a ∷ []) = simp no_second
-by_hands x (a ∷ b ∷ []) = simp no_second
-by_hands x (a ∷ b ∷ c ∷ []) = simp no_second
-by_hands x (a ∷ b ∷ c ∷ d ∷ []) = simp (hand_by, none_after)
-by_hands x (a ∷ b ∷ c ∷ d ∷ e ∷ es) = simp no_second
+by_hands x hs = grind (arith, hand_by, no_second, none_after)
 
 pub hands_by : (x : Chair) (text : List ℕ) → hands_in x text ≡ cards_from 3 x Spades text
 hands_by x text = by_hands x (parts 32 text) ∙ by_bytes 3 x Spades text

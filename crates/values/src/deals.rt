@@ -57,7 +57,7 @@ impl Cursor {
             left: self.left - 1,
             chair: self.chair.next(),
             suit: Suit::Spades,
-            repeated: self.repeated,
+            ..self
         })
     }
 
