@@ -4,7 +4,8 @@
 --     has_all_cards b            all 52 cards are played, or none on a board with no bid
 --     is_complete b              a numbered board with a lawful deal and the dealer and vulnerability of its number, with calls that end
 --                                the auction, at most 319, and with all its cards
-use Rattle.std.specs.Prelude.{ℕ, Bool, true, cond, ◌&&◌, List, [], ◌∷◌, length, is_some, ◌==◌, nat_le, nat_lt}
+use Rattle.std.specs.Prelude.{ℕ, Bool, cond, ◌&&◌, List, length, is_some, ◌==◌, nat_le, nat_lt}
+use Rattle.std.specs.List.{list_all}
 use Rattle.cards.specs.declared.boards.Vulnerability.{Vulnerability}
 use Rattle.cards.specs.declared.chairs.Chair.{Chair}
 use Rattle.cards.specs.Boards.{dealer, vulnerability, code as vulnerability_code}
@@ -19,8 +20,7 @@ abbrev pub board_as : ℕ → List ℕ → List ℕ → List ℕ → Board
 board_as n d calls cards = board_of n (dealer n) (vulnerability n) d calls cards
 
 abbrev pub are_below : ℕ → List ℕ → Bool
-are_below m [] = true
-are_below m (x ∷ xs) = nat_lt x m && are_below m xs
+are_below m xs = list_all (λ x. nat_lt x m) xs
 
 abbrev pub has_all_cards : Board → Bool
 has_all_cards b = length b.cards == cond (is_some (declarer_on b)) 52 0

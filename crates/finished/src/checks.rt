@@ -1,32 +1,30 @@
 // Which boards are finished.
-ghost use Rattle.std.specs.Prelude.{◌≡◌, ◌≤◌, length, take};
+ghost use Rattle.std.specs.Prelude.{◌≡◌};
 ghost use Rattle.std.specs.Option.{option_map};
 ghost use Rattle.finished.specs.Finished.{are_below, board_as, is_complete};
 ghost use Rattle.finished.specs.Histories.{checked, history};
 
 use crate::FinishedBoard;
-use auctions::Standing;
-use auctions::outcome::declarer;
+use auctions::Auction;
 use cards::boards::{dealer_of, vulnerability_of};
 use cards::deals::is_thirteen_each;
+use text::bytes::Bytes;
 
 fn are_below(most: u8, numbers: &[u8]) -> bool
     ensures below { result ≡ are_below most numbers.now }
 {
-    for number in numbers {
-        if *number >= most {
-            return false;
-        }
-    }
-    true
+    numbers.iter().all(|number| *number < most)
 }
 
 // Do these calls and cards finish the board?
 fn is_complete(number: u8, deal: &[u8; 52], calls: &[u8], cards: &[u8]) -> bool
     ensures complete { result ≡ is_complete (board_as number deal.now calls.now cards.now) }
 {
-    let dealer = dealer_of(number);
-    let all = match declarer(dealer, calls) {
+    let auction = Auction {
+        dealer: dealer_of(number),
+        calls,
+    };
+    let all = match auction.declarer() {
         Some(_) => 52,
         None => 0,
     };
@@ -35,20 +33,8 @@ fn is_complete(number: u8, deal: &[u8; 52], calls: &[u8], cards: &[u8]) -> bool
         && calls.len() <= 319
         && are_below(38, calls)
         && are_below(52, cards)
-        && Standing::of(dealer, calls).is_over()
+        && auction.standing().is_over()
         && cards.len() == all
-}
-
-// The bytes, in an array that is long enough.
-fn padded<const N: usize>(bytes: &[u8]) -> [u8; N]
-    requires { length bytes.now ≤ N }
-    ensures front { take (length bytes.now) result ≡ bytes.now }
-{
-    let mut array = [0; N];
-    for i in 0..bytes.len() {
-        array[i] = bytes[i];
-    }
-    array
 }
 
 impl FinishedBoard {
@@ -64,10 +50,8 @@ impl FinishedBoard {
             dealer: dealer_of(number),
             vulnerability: vulnerability_of(number),
             deal: *deal,
-            calls: padded(calls),
-            called: calls.len(),
-            cards: padded(cards),
-            played: cards.len(),
+            calls: Bytes::from_slice(calls),
+            cards: Bytes::from_slice(cards),
         })
     }
 }

@@ -2,12 +2,14 @@
 
 #![tactic(auto)]
 
-ghost use Rattle.std.specs.Prelude.{◌≡◌, ◌≤◌, true, take, unsigned_abs};
+ghost use Rattle.std.specs.Prelude.{◌≡◌, ◌≤◌, true, unsigned_abs};
 ghost use Rattle.finished.specs.Finished.{board_of, is_complete};
+ghost use Rattle.text.specs.Bytes.{written};
 
 use cards::boards::Vulnerability;
 use cards::chairs::Chair;
 use scoring::contracts::Contract;
+use text::bytes::Bytes;
 
 pub mod checks;
 pub mod outcomes;
@@ -20,13 +22,9 @@ pub struct FinishedBoard {
     pub dealer: Chair,
     pub vulnerability: Vulnerability,
     pub deal: [u8; 52],
-    pub calls: [u8; 319],
-    pub called: usize,
-    pub cards: [u8; 52],
-    pub played: usize,
-    ghost ended: { called ≤ 319 },
-    ghost whole: { played ≤ 52 },
-    ghost complete: { is_complete (board_of number dealer vulnerability deal (take called calls) (take played cards)) ≡ true },
+    pub calls: Bytes<319>,
+    pub cards: Bytes<52>,
+    ghost complete: { is_complete (board_of number dealer vulnerability deal (written calls) (written cards)) ≡ true },
 }
 
 // The contract with its declarer, the tricks of declarer's side, and the score to North-South.

@@ -9,8 +9,8 @@ use Rattle.finished.proofs.outcomes.outcome_of.Goals as goal
 
 pub returns-in_default : goal.returns-in_default
 returns-in_default c =
-    let none = ap (option_map terms) (sym c.in_default.is) ∙ c.contract.ensures.contract ∙ ap contract_of c.of.ensures.standing in
-    record { outcome = came_none (board_of 0 c.args.dealer c.args.vulnerability [] c.args.calls.now c.args.cards.now) none }
+    let none = ap (option_map terms) (sym c.in_default.is) ∙ c.contract.ensures.contract ∙ ap contract_of c.standing.ensures.standing in
+    record { outcome = came_none (board_of 0 c.args.auction.dealer c.args.vulnerability [] c.args.auction.calls.now c.args.cards.now) none }
 
 -- a small score is kept in 32 bits as it is
 same : (z : ℤ) → nat_abs z ≤ 7600 → to_z w32 (of_z w32 z) ≡ z
@@ -24,13 +24,13 @@ invariant_of-result c =
 
 pub returns : goal.returns
 returns c =
-    let b = board_of 0 c.args.dealer c.args.vulnerability [] c.args.calls.now c.args.cards.now in
+    let b = board_of 0 c.args.auction.dealer c.args.vulnerability [] c.args.auction.calls.now c.args.cards.now in
     let k = c.in-Some.contract in
     let x = c.in_ok-declarer.declarer in
     let t = c.of-tricks.result.won in
     let z = c.in_ok-score.score in
     let score = c.in_ok-score.ensures.score in
-    let contract = ap (option_map terms) (sym c.in-Some.is) ∙ c.contract.ensures.contract ∙ ap contract_of c.of.ensures.standing in
+    let contract = ap (option_map terms) (sym c.in-Some.is) ∙ c.contract.ensures.contract ∙ ap contract_of c.standing.ensures.standing in
     let declarer = sym c.in_ok-declarer.was ∙ c.declarer.ensures.declarer in
     let tricks = ap (λ (p : Progress). p.won) c.of-tricks.ensures.progress in
     let small = score_small k x c.args.vulnerability t z (omega (arith, c.of-tricks.ensures.few, c.requires)) score in
