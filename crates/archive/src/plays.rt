@@ -28,7 +28,7 @@ fn put_card_of(page: &mut Page, trick: &[u8], leader: Chair, chair: Chair)
     requires { length trick.now ≡ 4 }
     ensures wrote { Wrote (card_text (card_by leader trick.now chair)) page.old page.new }
 {
-    let place = (chair.code() + 4 - leader.code()) % 4;
+    let place = (u8::from(chair) + 4 - u8::from(leader)) % 4;
     put_card(page, trick[usize::from(place)]);
 }
 

@@ -29,8 +29,8 @@ fn vulnerability_word(vulnerability: Vulnerability) -> &'static [u8]
 fn put_suit(page: &mut Page, deal: &[u8; 52], chair: Chair, suit: Suit)
     ensures wrote { Wrote (suit_text deal.now chair suit) page.old page.new }
 {
-    let to = chair.code();
-    let lowest = 13 * suit.code();
+    let to = u8::from(chair);
+    let lowest = 13 * u8::from(suit);
     for rank in (0..13u8).rev() {
         if deal[usize::from(lowest + rank)] == to {
             page.put(rank_letter(rank));

@@ -20,6 +20,6 @@ loop-rank-preserved-then-deal-from c =
 pub returns : goal.returns
 returns c =
     let l = c.loop-rank in
-    let low = ap (λ k. 13 * k) c.code-lowest.ensures.code in
-    let e = suit_done c.args.deal.now c.args.chair c.args.suit c.code-to.result (13 * c.code-lowest.result) l.rank l.invariant.0 c.code-to.ensures.code low (omega arith) l.invariant.2 in
+    let low = ap (λ k. 13 * k) c.from-lowest.ensures.0 in
+    let e = suit_done c.args.deal.now c.args.chair c.args.suit c.from-to.result (13 * c.from-lowest.result) l.rank l.invariant.0 c.from-to.ensures.0 low (omega arith) l.invariant.2 in
     record { wrote = told e l.invariant.1 }
