@@ -53,8 +53,7 @@ fn put_tricks(page: &mut Page, trumps: Denomination, opening: Chair, cards: &[u8
     ensures wrote { Wrote (text (trick_rows trumps opening cards.now (tricks_in cards.now))) page.old page.new }
 {
     let mut leader = opening;
-    for k in 0..cards.len() / 4 {
-        let trick = &cards[4 * k..4 * k + 4];
+    for trick in cards.chunks_exact(4) {
         put_trick(page, trick, leader, opening);
         leader = winner(trumps, leader, trick);
     }

@@ -1,28 +1,47 @@
-use Rattle.std.proofs.Common.{◌≡◌, ◌+◌, ◌-◌, ◌*◌, ◌/◌, [], ◌∷◌, length, take, drop, sym, refl, ap, ◌∙◌, ap₂, add-one, arith}
+use Rattle.std.proofs.Common.{◌≡◌, ◌+◌, ◌∷◌, [], ◌*◌, ◌/◌, length, drop, sym, refl, ap, ◌∙◌, ap₂, add-one, arith, rules, length-drop}
+use Rattle.std.proofs.lemmas.Grind.{common_steps}
+use Rattle.std.proofs.lemmas.List.{length_push}
 use Rattle.text.proofs.Writes.{nothing, told}
-use Rattle.tricks.specs.Tricks.{leader, trick}
-use Rattle.tricks.proofs.Rounds.{leader_next}
+use Rattle.tricks.specs.Tricks.{leader, trick, tricks_in}
+use Rattle.tricks.proofs.Rounds.{leader_after, next_trick}
 use Rattle.writer.specs.Texts.{text}
 use Rattle.writer.proofs.Lines.{lines_put}
 use Rattle.archive.specs.Records.{trick_columns, trick_rows}
 use Rattle.archive.proofs.plays.put_tricks.Goals as goal
 
-pub loop-k-init : goal.loop-k-init
-loop-k-init c = (refl, nothing _)
+pub loop-trick-init : goal.loop-trick-init
+loop-trick-init c =
+    record {
+      by_four = search rules;
+      to_come = search rules;
+      whole = omega arith;
+      leads = refl;
+      wrote = nothing _;
+    }
 
-pub loop-k-preserved : goal.loop-k-preserved
-loop-k-preserved c =
+pub put_trick-requires : goal.put_trick-requires
+put_trick-requires c = c.in-Some.ensures.steps.1.1 ∙ c.loop-trick.invariant.by_four
+
+pub loop-trick-preserved : goal.loop-trick-preserved
+loop-trick-preserved c =
     let t = c.args.trumps in
     let l = c.args.opening in
     let cards = c.args.cards.now in
-    let k = c.loop-k.k in
-    let four : 4 * k + 4 - 4 * k ≡ 4 = omega arith in
-    let row = told (ap₂ (λ m n. text (trick_columns m (take n (drop (4 * k) cards)) l ∷ [])) c.loop-k.invariant.0 four) c.put_trick.ensures.wrote in (
-      c.winner-leader.ensures.winner ∙ leader_next t l cards k c.loop-k.leader c.loop-k.invariant.0,
-      told (ap (λ n. text (trick_rows t l cards n)) (sym (add-one k))) (lines_put (trick_rows t l cards k) (trick_columns (leader t l cards k) (trick cards k) l ∷ []) c.loop-k.invariant.1 row),
-    )
+    let k = length c.loop-trick.yielded in
+    let so_far = c.loop-trick.invariant in
+    let steps = c.in-Some.ensures.steps in
+    let next = next_trick t l cards k c.in-Some.trick.now _ so_far.whole (sym so_far.to_come ∙ steps.1.0) (steps.1.1 ∙ so_far.by_four) in
+    let row = told (ap₂ (λ m cs. text (trick_columns m cs l ∷ [])) so_far.leads next.0) c.put_trick.ensures.wrote in
+    simp length_push (record {
+      by_four = steps.0 ∙ so_far.by_four;
+      to_come = next.1;
+      whole = next.2;
+      leads = c.winner-leader.ensures.winner ∙ leader_after t l cards k c.loop-trick.leader c.in-Some.trick.now so_far.leads next.0;
+      wrote = told (ap (λ n. text (trick_rows t l cards n)) (sym (add-one k))) (lines_put (trick_rows t l cards k) (trick_columns (leader t l cards k) (trick cards k) l ∷ []) so_far.wrote row);
+    })
 
 pub returns : goal.returns
 returns c =
-    let all : c.loop-k.k ≡ length c.args.cards.now / 4 = omega arith in
-    record { wrote = told (ap (λ n. text (trick_rows c.args.trumps c.args.opening c.args.cards.now n)) all) c.loop-k.invariant.1 }
+    let left = length-drop (4 * length c.loop-trick.yielded) c.args.cards.now in
+    let all : length c.loop-trick.yielded ≡ length c.args.cards.now / 4 = grind (arith, common_steps) in
+    record { wrote = told (ap (λ n. text (trick_rows c.args.trumps c.args.opening c.args.cards.now n)) all) c.loop-trick.invariant.wrote }

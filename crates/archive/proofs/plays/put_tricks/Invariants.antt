@@ -1,10 +1,19 @@
-use Rattle.std.proofs.Common.{◌≡◌}
+use Rattle.std.proofs.Common.{◌≡◌, ◌*◌, ◌≤◌, length, drop}
+use Rattle.std.specs.Slice.Iter.{chunks_exact_rest, chunks_exact_size}
 use Rattle.text.specs.Bytes.{Wrote}
 use Rattle.tricks.specs.Tricks.{leader}
 use Rattle.writer.specs.Texts.{text}
 use Rattle.archive.specs.Records.{trick_rows}
 use Rattle.archive.proofs.plays.put_tricks.Given as goal
 
--- the first k tricks are on the page
-abbrev pub invariant-loop-k : goal.invariant-loop-k
-invariant-loop-k l = (l.leader ≡ leader l.trumps l.opening l.cards l.k) × Wrote (text (trick_rows l.trumps l.opening l.cards l.k)) l.initial.page l.page
+-- the tricks so far are on the page
+abbrev pub invariant-loop-trick : goal.invariant-loop-trick
+invariant-loop-trick l =
+    let k = length l.yielded in
+    record {
+      by_four : chunks_exact_size l.trick-iterator ≡ 4;
+      to_come : chunks_exact_rest l.trick-iterator ≡ drop (4 * k) l.cards;
+      whole : 4 * k ≤ length l.cards;
+      leads : l.leader ≡ leader l.trumps l.opening l.cards k;
+      wrote : Wrote (text (trick_rows l.trumps l.opening l.cards k)) l.initial.page l.page;
+    }
