@@ -11,5 +11,5 @@ fn main(rt: HostRuntime) -> io::Result<()> {
     let mut bytes = [0; MOST];
     let length = fill(&mut rt.stdin(), &mut bytes)?;
     let page = reply(&bytes[0..length]);
-    rt.stdout().write_all(page.text())
+    rt.stdout().write_all(page.as_slice())
 }

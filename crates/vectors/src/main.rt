@@ -11,7 +11,7 @@ fn main(rt: HostRuntime) -> io::Result<()> {
         let file = fs::read(&rt, name.as_str())?;
         let page = reply(file.as_slice());
         println!(rt; "% {name}")?;
-        rt.stdout().write_all(page.text())?;
+        rt.stdout().write_all(page.as_slice())?;
     }
     Ok(())
 }
