@@ -51,6 +51,7 @@ impl Auction<'_> {
         requires { is_bid bid.call ≡ true }
         ensures chair { result ≡ first_to_name bid self.now.dealer self.now.calls.now }
     {
+        // A loop, since a chain would have to count the chairs along with the calls.
         let mut turn = self.dealer;
         for call in self.calls {
             if names(bid, turn, *call) {
