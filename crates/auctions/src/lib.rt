@@ -110,8 +110,9 @@ impl Standing {
     fn opponents_call(self) -> Option<u8>
         ensures call { result ≡ opponents_call self.turn self.action }
     {
-        let made = self.action?;
-        (!self.turn.same_side(made.by)).then_some(made.call)
+        self.action
+            .filter(|made| !self.turn.same_side(made.by))
+            .map(|made| made.call)
     }
 
     // The ruling on a call by the chair in turn.

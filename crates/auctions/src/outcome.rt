@@ -43,6 +43,7 @@ impl Auction<'_> {
         requires { is_bid bid.call ≡ true }
         ensures chair { result ≡ first_to_name bid self.now.dealer self.now.calls.now }
     {
+        // A loop, since a chain would have to count the chairs along with the calls.
         let mut turn = self.dealer;
         for call in self.calls {
             if denomination(*call) == denomination(bid.call) && turn.same_side(bid.by) {
