@@ -21,9 +21,7 @@ use Rattle.cards.specs.Chairs.{next, place}
 use Rattle.cards.specs.Pack.{suit_of}
 use Rattle.finished.specs.Outcomes.{Came, came_to}
 use Rattle.laws.specs.History.{Board}
-use Rattle.notation.specs.Notation.{bid_text, call_text, denomination_text}
-use Rattle.scoring.specs.declared.contracts.Doubling.{Doubling}
-use Rattle.scoring.specs.declared.contracts.Doubling.TheVariants.{Undoubled, Doubled, Redoubled}
+use Rattle.notation.specs.Notation.{bid_text, call_text, denomination_text, doubling_text}
 use Rattle.tricks.specs.Tricks.{leader, trick, tricks_in}
 use Rattle.values.specs.Letters.{chair_letter, rank_letter}
 use Rattle.writer.specs.Texts.{tag_line, tag_lines, text}
@@ -47,11 +45,6 @@ of_suit (Some s) r = denomination_text (Trumps s) ++ (rank_letter r ∷ [])
 
 abbrev pub card_text : ℕ → List ℕ
 card_text c = of_suit (suit_of c) (c % 13)
-
-abbrev pub doubling_text : Doubling → List ℕ
-doubling_text Undoubled = []
-doubling_text Doubled = codes "X"
-doubling_text Redoubled = codes "XX"
 
 abbrev pub terms_text : Terms → List ℕ
 terms_text k = bid_text (Some (k.0, k.1)) ++ doubling_text k.2

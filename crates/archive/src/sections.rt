@@ -2,7 +2,7 @@
 ghost use Rattle.std.specs.Prelude.{◌≡◌, ◌<◌, map, Some, None};
 ghost use Rattle.text.specs.Bytes.{Wrote};
 ghost use Rattle.writer.specs.Texts.{text};
-ghost use Rattle.archive.specs.Records.{auction_lines, doubling_text, outcome_lines, rows, terms_text};
+ghost use Rattle.archive.specs.Records.{auction_lines, outcome_lines, rows, terms_text};
 ghost use Rattle.archive.specs.Words.{end_of_word};
 ghost use Rattle.auctions.specs.Outcomes.{terms};
 ghost use Rattle.finished.specs.Outcomes.{told};
@@ -10,28 +10,18 @@ ghost use Rattle.notation.specs.Notation.{call_text};
 
 use cards::chairs::Chair;
 use finished::Outcome;
-use notation::{denomination_text, put_call};
-use scoring::contracts::{Contract, Doubling};
+use notation::{denomination_text, doubling_text, put_call};
+use scoring::contracts::Contract;
 use text::page::Page;
 use values::letters::chair_letter;
 use writer::put_tag;
-
-fn put_doubling(page: &mut Page, doubling: Doubling)
-    ensures wrote { Wrote (doubling_text doubling) page.old page.new }
-{
-    match doubling {
-        Doubling::Undoubled => page.put_all(b""),
-        Doubling::Doubled => page.put_all(b"X"),
-        Doubling::Redoubled => page.put_all(b"XX"),
-    }
-}
 
 fn put_contract(page: &mut Page, contract: Contract)
     ensures wrote { Wrote (terms_text (terms contract)) page.old page.new }
 {
     page.put(b'0' + contract.level);
     page.put_all(denomination_text(contract.denomination).as_bytes());
-    put_doubling(page, contract.doubling);
+    page.put_all(doubling_text(contract.doubling).as_bytes());
 }
 
 pub(crate) fn put_passed_out(page: &mut Page)
@@ -75,8 +65,8 @@ fn end_of_word(i: usize, count: usize) -> u8
 fn put_calls(page: &mut Page, calls: &[u8])
     ensures wrote { Wrote (text (rows (map call_text calls.now))) page.old page.new }
 {
-    for i in 0..calls.len() {
-        put_call(page, calls[i]);
+    for (i, call) in calls.iter().enumerate() {
+        put_call(page, *call);
         page.put(end_of_word(i, calls.len()));
     }
 }

@@ -1,5 +1,6 @@
 -- Calls as text: Pass, X for a double, XX for a redouble, and a bid by its level and its denomination, 1C to 7NT.
 --     denomination_text d, denomination_named w  C, D, H, S, NT
+--     doubling_text x             X if it is doubled, XX if it is redoubled
 --     bid_text b                  a bid's level and its denomination
 --     call_text a                 the text of the call a; above 37 there is no call and no text
 --     bid_named w                 the bid that a digit from 1 to 7 and a denomination name
@@ -11,6 +12,8 @@ use Rattle.cards.specs.declared.suits.Denomination.{Denomination}
 use Rattle.cards.specs.declared.suits.Denomination.TheVariants.{Trumps, NoTrump}
 use Rattle.cards.specs.declared.suits.Suit.TheVariants.{Clubs, Diamonds, Hearts, Spades}
 use Rattle.cards.specs.Calls.{bid_of, denomination_of, level_of}
+use Rattle.scoring.specs.declared.contracts.Doubling.{Doubling}
+use Rattle.scoring.specs.declared.contracts.Doubling.TheVariants.{Undoubled, Doubled, Redoubled}
 use Rattle.tags.specs.Tags.{and_then}
 
 abbrev pub denomination_text : Denomination → List ℕ
@@ -19,6 +22,11 @@ denomination_text (Trumps Diamonds) = codes "D"
 denomination_text (Trumps Hearts) = codes "H"
 denomination_text (Trumps Spades) = codes "S"
 denomination_text NoTrump = codes "NT"
+
+abbrev pub doubling_text : Doubling → List ℕ
+doubling_text Undoubled = []
+doubling_text Doubled = codes "X"
+doubling_text Redoubled = codes "XX"
 
 abbrev pub denomination_named : List ℕ → Option Denomination
 denomination_named w =

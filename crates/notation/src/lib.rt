@@ -5,10 +5,11 @@
 ghost use Rattle.std.specs.Prelude.{◌≡◌};
 ghost use Rattle.text.specs.Bytes.{Wrote};
 ghost use Rattle.notation.specs.Laws.{NamedOnly, ReadsBack};
-ghost use Rattle.notation.specs.Notation.{bid_named, call_named, call_text, denomination_named, denomination_text};
+ghost use Rattle.notation.specs.Notation.{bid_named, call_named, call_text, denomination_named, denomination_text, doubling_text};
 
 use cards::calls::{DOUBLE, PASS, REDOUBLE, bid, denomination, level};
 use cards::suits::{Denomination, Suit};
+use scoring::contracts::Doubling;
 use text::page::Page;
 
 // The denomination that a word names.
@@ -59,6 +60,17 @@ pub fn denomination_text(denomination: Denomination) -> &'static str
         Denomination::Trumps(Suit::Hearts) => "H",
         Denomination::Trumps(Suit::Spades) => "S",
         Denomination::NoTrump => "NT",
+    }
+}
+
+// How far a contract is doubled, as it is written behind its bid.
+pub fn doubling_text(doubling: Doubling) -> &'static str
+    ensures text { result.now ≡ doubling_text doubling }
+{
+    match doubling {
+        Doubling::Undoubled => "",
+        Doubling::Doubled => "X",
+        Doubling::Redoubled => "XX",
     }
 }
 

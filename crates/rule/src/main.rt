@@ -2,86 +2,62 @@
 
 #![tactic(auto)]
 
-ghost use Rattle.std.specs.Prelude.{◌≡◌, ◌<◌, false};
-
-use auctions::Standing;
-use auctions::outcome::declarer;
+use auctions::{Auction, Standing};
 use cards::chairs::Chair;
 use input::{MOST, fill};
-use notation::{call_named, denomination_text};
+use notation::{call_named, denomination_text, doubling_text};
 use rulings::Irregularity;
-use scoring::contracts::Doubling;
 use std::io;
 use std::str::from_utf8;
+use text::bytes::Bytes;
 use values::letters::{chair_letter, dealer_named};
 
-// The longest auction.
-const LONGEST: usize = 319;
-
-// A number that is no call, for a word that names none.
-const NO_CALL: u8 = 255;
-
-// An auction, as far as it was heard.
-#[derive(Drop)]
-struct Auction {
+// An auction, as far as it was heard. No lawful one is longer than 319 calls.
+#[derive(Clone, Copy)]
+struct Heard {
     dealer: Chair,
     standing: Standing,
-    calls: [u8; LONGEST],
-    count: usize,
+    calls: Bytes<319>,
 }
 
-impl Auction {
-    fn new(dealer: Chair) -> Auction {
-        Auction {
+impl Heard {
+    fn new(dealer: Chair) -> Heard {
+        Heard {
             dealer,
             standing: Standing::start(dealer),
-            calls: [0; LONGEST],
-            count: 0,
+            calls: Bytes::new(),
         }
     }
 
-    // Has the auction ended? With 319 calls it has in any case.
-    fn is_over(&self) -> bool
-        ensures room { result ≡ false → self.now.count < 319 }
-    {
-        self.count >= LONGEST || self.standing.is_over()
-    }
-
-    // Rules on a call by the chair in turn, and keeps it if it is lawful.
-    fn call(&mut self, call: u8) -> Result<(), Irregularity>
-        requires { self.old.count < 319 }
-    {
+    // Rules on what a word says for the chair in turn, and keeps it if it is a lawful call.
+    fn call(&mut self, word: &str) -> Result<(), Irregularity> {
+        let call = call_named(word.as_bytes()).ok_or(Irregularity::NoSuchAct)?;
         self.standing.ruling(call)?;
-        self.calls[self.count] = call;
-        self.count += 1;
+        self.calls.put(call);
         self.standing = self.standing.after(call);
         Ok(())
     }
 
     fn declarer(&self) -> Option<Chair> {
-        declarer(self.dealer, self.calls.get(0..self.count)?)
+        let auction = Auction {
+            dealer: self.dealer,
+            calls: self.calls.as_slice(),
+        };
+        auction.declarer()
     }
 }
 
 fn letter(chair: Chair) -> char {
-    chair_letter(chair) as char
-}
-
-fn doubling_text(doubling: Doubling) -> &'static str {
-    match doubling {
-        Doubling::Undoubled => "",
-        Doubling::Doubled => "X",
-        Doubling::Redoubled => "XX",
-    }
+    char::from(chair_letter(chair))
 }
 
 // Prints the ruling on a call by the chair in turn.
-fn print_ruling(rt: &HostRuntime, auction: &mut Auction, word: &str) -> io::Result<()> {
-    if auction.is_over() {
+fn print_ruling(rt: &impl Print, auction: &mut Heard, word: &str) -> io::Result<()> {
+    if auction.standing.is_over() {
         return println!(rt; "- {word} the auction is over");
     }
     let chair = letter(auction.standing.turn);
-    match auction.call(call_named(word.as_bytes()).unwrap_or(NO_CALL)) {
+    match auction.call(word) {
         Ok(()) => println!(rt; "{chair} {word} ok"),
         Err(irregularity) => {
             let number = irregularity.number();
@@ -91,9 +67,9 @@ fn print_ruling(rt: &HostRuntime, auction: &mut Auction, word: &str) -> io::Resu
 }
 
 // Prints what an auction has come to, and an empty line.
-fn print_outcome(rt: &HostRuntime, auction: &Auction) -> io::Result<()> {
+fn print_outcome(rt: &impl Print, auction: &Heard) -> io::Result<()> {
     let standing = auction.standing;
-    if !auction.is_over() {
+    if !standing.is_over() {
         let turn = letter(standing.turn);
         return println!(rt; "{turn} to call\n");
     }
@@ -114,7 +90,7 @@ fn print_outcome(rt: &HostRuntime, auction: &Auction) -> io::Result<()> {
 }
 
 // Hears auctions word by word: a chair's letter opens one, and each other word is a call.
-fn hear(rt: &HostRuntime, text: &str) -> io::Result<()> {
+fn hear(rt: &impl Print, text: &str) -> io::Result<()> {
     let mut heard = None;
     for word in text.split_ascii_whitespace() {
         if let Some(dealer) = dealer_named(word.as_bytes()) {
@@ -122,7 +98,7 @@ fn hear(rt: &HostRuntime, text: &str) -> io::Result<()> {
                 print_outcome(rt, auction)?;
             }
             println!(rt; "dealer {word}")?;
-            heard = Some(Auction::new(dealer));
+            heard = Some(Heard::new(dealer));
         } else if let Some(auction) = &mut heard {
             print_ruling(rt, auction, word)?;
         } else {

@@ -10,9 +10,8 @@ use sheets::sheet::{MOST_ROWS, Sheet};
 use slips::read_slip;
 use std::io;
 
-
 // Adds a row for each line, and says which lines are refused.
-fn add_slips(rt: &HostRuntime, sheet: &mut Sheet, slips: &[u8]) -> io::Result<()> {
+fn add_slips(rt: &impl Print, sheet: &mut Sheet, slips: &[u8]) -> io::Result<()> {
     for (count, line) in (1u64..).zip(Lines::of(slips)) {
         match read_slip(line.text) {
             Some(row) => {
@@ -28,7 +27,7 @@ fn add_slips(rt: &HostRuntime, sheet: &mut Sheet, slips: &[u8]) -> io::Result<()
 }
 
 // Prints the rows with their results, and the sums beside what they have to be.
-fn print_results(rt: &HostRuntime, sheet: &Sheet) -> io::Result<()> {
+fn print_results(rt: &impl Print, sheet: &Sheet) -> io::Result<()> {
     println!(rt; "  NS   EW   Score     MP    IMP")?;
     for (i, row) in sheet.rows().iter().enumerate() {
         let matchpoints = sheet.result::<Matchpoints>(i).unwrap();
