@@ -8,15 +8,19 @@ mod cases;
 #[cfg(test)]
 mod tests {
     use crate::cases::{CALLS, CARDS, DEAL, TRICKS, WINNERS};
-    use auctions::Standing;
-    use auctions::outcome::declarer;
+    use auctions::{Auction, Standing};
     use cards::calls::PASS;
     use cards::chairs::Chair;
     use cards::suits::{Denomination, Suit};
     use laws::{hand_left, ruling, seats};
     use rulings::Irregularity;
     use std::test::Fail;
-    use tricks::{Progress, led, lowest_legal, winner};
+    use tricks::{Progress, Turn, led, winner};
+
+    const AUCTION: Auction = Auction {
+        dealer: Chair::North,
+        calls: &CALLS,
+    };
 
     // Every call was lawful, and the contract was two no trump by West.
     #[test]
@@ -33,9 +37,9 @@ mod tests {
             return Ok(());
         };
         assert_eq!(rt; contract.level, 2);
-        assert_eq!(rt; contract.denomination.code(), 4);
-        assert_eq!(rt; contract.doubling.code(), 0);
-        assert_eq!(rt; declarer(Chair::North, &CALLS), Some(Chair::West));
+        assert_eq!(rt; u8::from(contract.denomination), 4);
+        assert_eq!(rt; u8::from(contract.doubling), 0);
+        assert_eq!(rt; AUCTION.declarer(), Some(Chair::West));
         Ok(())
     }
 
@@ -43,7 +47,7 @@ mod tests {
     // went to the chair that the published play gives it.
     #[test]
     fn the_play(rt: HostRuntime) {
-        let standing = Standing::of(Chair::North, &CALLS);
+        let standing = AUCTION.standing();
         for k in 0..52usize {
             let before = &CARDS[0..k];
             let progress = Progress::of(Denomination::NoTrump, Chair::West, before);
@@ -56,8 +60,11 @@ mod tests {
                     acting
                 }
             );
-            let hand = hand_left(&DEAL, before, acting);
-            assert_eq!(rt; ruling(standing, led(before), hand, CARDS[k]), Ok(()));
+            let turn = Turn {
+                led: led(before),
+                hand: hand_left(&DEAL, before, acting),
+            };
+            assert_eq!(rt; ruling(standing, turn, CARDS[k]), Ok(()));
             if k % 4 == 0 && k > 0 {
                 assert_eq!(rt; progress.leader, WINNERS[k / 4 - 1]);
             }
@@ -74,46 +81,40 @@ mod tests {
     // would still forbid the heart then.
     #[test]
     fn a_revoke(rt: HostRuntime) {
+        let turn = |led, hand| Turn { led, hand };
         let spades = Some(Suit::Spades);
-        assert_eq!(rt; tricks::ruling(spades, HAND, 26), Err(Irregularity::Revoke));
-        assert_eq!(rt; tricks::ruling(spades, HAND, 51), Ok(()));
-        assert_eq!(rt; tricks::ruling(None, HAND, 26), Ok(()));
-        let left = hands::remaining(HAND, &[51]);
-        assert_eq!(rt; tricks::ruling(spades, left, 26), Ok(()));
-        assert_eq!(rt;
-            tricks::ruling(spades, left, 51),
-            Err(Irregularity::CardNotHeld)
-        );
-        assert_eq!(rt;
-            tricks::ruling(spades, left, 52),
-            Err(Irregularity::NoSuchAct)
-        );
-        assert_eq!(rt; lowest_legal(spades, HAND), Some(51));
-        assert_eq!(rt; lowest_legal(spades, left), Some(26));
-        assert_eq!(rt; lowest_legal(None, HAND), Some(26));
-        assert_eq!(rt; lowest_legal(None, 0), None);
+        let dealt = turn(spades, HAND);
+        assert_eq!(rt; dealt.ruling(26), Err(Irregularity::Revoke));
+        assert_eq!(rt; dealt.ruling(51), Ok(()));
+        assert_eq!(rt; turn(None, HAND).ruling(26), Ok(()));
+        let left = turn(spades, hands::remaining(HAND, &[51]));
+        assert_eq!(rt; left.ruling(26), Ok(()));
+        assert_eq!(rt; left.ruling(51), Err(Irregularity::CardNotHeld));
+        assert_eq!(rt; left.ruling(52), Err(Irregularity::NoSuchAct));
+        assert_eq!(rt; dealt.lowest_legal(), Some(51));
+        assert_eq!(rt; left.lowest_legal(), Some(26));
+        assert_eq!(rt; turn(None, HAND).lowest_legal(), Some(26));
+        assert_eq!(rt; turn(None, 0).lowest_legal(), None);
     }
 
     // On the real board, clubs are led to the second trick: North holds clubs, so no heart may be
     // played; the ten of spades is gone, and the two of clubs is South's.
     #[test]
     fn a_revoke_on_the_board(rt: HostRuntime) {
-        let standing = Standing::of(Chair::North, &CALLS);
+        let standing = AUCTION.standing();
         let before = &CARDS[0..6];
-        let hand = hand_left(&DEAL, before, Chair::North);
-        assert_eq!(rt;
-            ruling(standing, led(before), hand, 30),
-            Err(Irregularity::Revoke)
-        );
-        assert_eq!(rt;
-            ruling(standing, led(before), hand, 47),
-            Err(Irregularity::CardNotHeld)
-        );
-        assert_eq!(rt;
-            ruling(standing, led(before), hand, PASS),
-            Err(Irregularity::CardNotHeld)
-        );
-        assert_eq!(rt; ruling(standing, led(before), hand, 11), Ok(()));
+        let turn = Turn {
+            led: led(before),
+            hand: hand_left(&DEAL, before, Chair::North),
+        };
+        for (card, ruled) in [
+            (30, Err(Irregularity::Revoke)),
+            (47, Err(Irregularity::CardNotHeld)),
+            (PASS, Err(Irregularity::CardNotHeld)),
+            (11, Ok(())),
+        ] {
+            assert_eq!(rt; ruling(standing, turn, card), ruled);
+        }
     }
 
     #[test]
