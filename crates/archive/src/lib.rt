@@ -5,11 +5,14 @@
 ghost use Rattle.std.specs.Prelude.{◌≡◌};
 ghost use Rattle.archive.specs.Writing.{number};
 
+use std::error::Error;
+use std::fmt;
+
 mod plays;
 mod sections;
 
 // Why a record is not written.
-#[derive(Clone, Copy, Debug, PartialEq)]
+#[derive(Clone, Copy, Debug, PartialEq, Eq)]
 pub enum Refusal {
     NoRoom,
 }
@@ -24,3 +27,13 @@ impl Refusal {
         }
     }
 }
+
+impl fmt::Display for Refusal {
+    fn fmt<W: fmt::Write>(&self, f: &mut fmt::Formatter<W>) -> fmt::Result {
+        f.write_str(match self {
+            Refusal::NoRoom => "the record does not fit",
+        })
+    }
+}
+
+impl Error for Refusal {}

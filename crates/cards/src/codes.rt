@@ -1,4 +1,4 @@
-// Codes: the numbers of chairs, suits, denominations and vulnerabilities.
+// Codes: the numbers of chairs, suits, denominations, vulnerabilities and, in crate scoring, doublings.
 use std::error::Error;
 use std::fmt;
 

@@ -5,11 +5,12 @@
 ghost use Rattle.std.specs.Prelude.{◌≡◌};
 ghost use Rattle.faults.specs.Faults.{layer, number, offset};
 
+use std::error::Error;
 use std::fmt;
 
 // The faults in the order of the questions that find them. Where a line is at fault, `line` is the
 // offset at which it starts.
-#[derive(Clone, Copy, Debug, PartialEq)]
+#[derive(Clone, Copy, Debug, PartialEq, Eq)]
 pub enum Fault {
     FileTooLong,
     LineTooLong { line: usize },
@@ -91,3 +92,5 @@ impl fmt::Display for Fault {
         })
     }
 }
+
+impl Error for Fault {}

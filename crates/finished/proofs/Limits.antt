@@ -1,5 +1,5 @@
 -- How many calls and cards a finished board has at most.
-use Rattle.std.proofs.Common.{◌≡◌, ℕ, ◌≤◌, leb, eqb, Bool, true, false, cond, length, is_some, arith}
+use Rattle.std.proofs.Common.{◌≡◌, ℕ, ◌≤◌, leb, Bool, true, false, cond, length, is_some, arith}
 use Rattle.std.proofs.lemmas.Bool.{and_parts, eqb-true, leb-true}
 use Rattle.laws.specs.History.{Board, declarer_on, is_auction_over}
 use Rattle.cards.specs.Deals.{thirteen_each}

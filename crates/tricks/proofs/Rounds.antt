@@ -1,5 +1,5 @@
 -- Trick after trick: who leads the next, and what stays as cards are added.
-use Rattle.std.proofs.Common.{◌≡◌, ℕ, zero, suc, ◌+◌, ◌-◌, ◌*◌, ◌≤◌, Bool, true, false, cond, List, [], ◌∷◌, ◌++◌, length, take, drop, sym, refl, ap, ◌∙◌, ap₂, add-one, arith}
+use Rattle.std.proofs.Common.{◌≡◌, ℕ, zero, suc, ◌+◌, ◌*◌, ◌≤◌, Bool, true, false, cond, List, [], ◌∷◌, ◌++◌, length, take, drop, sym, refl, ap, ◌∙◌, ap₂, add-one, arith}
 use Rattle.std.proofs.lemmas.List.{drop-append-le, drop-drop, drop_at, length-append, length-drop, take-append-le, take_at}
 use Rattle.std.specs.Int.{from_bool}
 use Rattle.cards.specs.declared.chairs.Chair.{Chair}
@@ -13,7 +13,6 @@ won_one true = (refl, omega arith)
 won_one false = (refl, omega arith)
 
 module _ (t : Denomination) (l : Chair) (cards : List ℕ) where
-  -- one trick more, as the code counts
   -- the cards of the next trick, off the front of those to come
   pub next_trick : (k : ℕ) (cs to_come : List ℕ) → 4 * k ≤ length cards → drop (4 * k) cards ≡ cs ++ to_come → length cs ≡ 4
       → (cs ≡ trick cards k) × (to_come ≡ drop (4 * (k + 1)) cards) × (4 * (k + 1) ≤ length cards)
@@ -26,9 +25,6 @@ module _ (t : Denomination) (l : Chair) (cards : List ℕ) where
 
   pub leader_after : (k : ℕ) (x : Chair) (cs : List ℕ) → x ≡ leader t l cards k → cs ≡ trick cards k → winner t x cs ≡ leader t l cards (k + 1)
   leader_after k x cs e f = ap₂ (winner t) e f ∙ ap (leader t l cards) (sym (add-one k))
-
-  pub leader_next : (k : ℕ) (x : Chair) → x ≡ leader t l cards k → winner t x (take (4 * k + 4 - 4 * k) (drop (4 * k) cards)) ≡ leader t l cards (k + 1)
-  leader_next k x e = let four : 4 * k + 4 - 4 * k ≡ 4 = omega arith in leader_after k x _ e (ap (λ n. take n (drop (4 * k) cards)) four)
 
   pub won_next : (c : Chair) (k : ℕ) → won t l cards c (k + 1) ≡ won t l cards c k + cond (same_side (leader t l cards (k + 1)) c) 1 0
   won_next c k = rw add-one refl

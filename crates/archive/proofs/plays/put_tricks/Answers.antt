@@ -1,8 +1,8 @@
-use Rattle.std.proofs.Common.{◌≡◌, ◌+◌, ◌∷◌, [], ◌*◌, ◌/◌, length, drop, sym, refl, ap, ◌∙◌, ap₂, add-one, arith, rules, length-drop}
+use Rattle.std.proofs.Common.{◌≡◌, ◌∷◌, [], ◌*◌, ◌/◌, length, sym, refl, ap, ◌∙◌, ap₂, add-one, arith, rules, length-drop}
 use Rattle.std.proofs.lemmas.Grind.{common_steps}
 use Rattle.std.proofs.lemmas.List.{length_push}
 use Rattle.text.proofs.Writes.{nothing, told}
-use Rattle.tricks.specs.Tricks.{leader, trick, tricks_in}
+use Rattle.tricks.specs.Tricks.{leader, trick}
 use Rattle.tricks.proofs.Rounds.{leader_after, next_trick}
 use Rattle.writer.specs.Texts.{text}
 use Rattle.writer.proofs.Lines.{lines_put}
