@@ -2,7 +2,7 @@
 
 #![tactic(auto)]
 
-ghost use Rattle.std.specs.Prelude.{◌≡◌, ℕ, ◌≤◌, Bool, length};
+ghost use Rattle.std.specs.Prelude.{◌≡◌, ℕ, ◌≤◌, Bool, not, length, ◌==◌};
 ghost use Rattle.std.specs.List.{prefix_len};
 
 // Which bytes belong.
@@ -11,6 +11,17 @@ pub trait Alphabet {
 
     fn contains(byte: u8) -> bool
         ensures admits { result ≡ admits byte };
+}
+
+// All bytes but one.
+pub struct AllBut<const BYTE: u8>;
+
+impl<const BYTE: u8> Alphabet for AllBut<BYTE> {
+    ghost admits = { λ byte. not (byte == BYTE) };
+
+    fn contains(byte: u8) -> bool {
+        byte != BYTE
+    }
 }
 
 // The length of the longest front of which every byte belongs to the alphabet.

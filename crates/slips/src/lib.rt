@@ -3,9 +3,9 @@
 #![tactic(auto)]
 
 ghost use Rattle.std.specs.Prelude.{◌≡◌};
-ghost use Rattle.slips.specs.Slips.{is_space, is_ink, word_in, behind_word, signed, slip};
+ghost use Rattle.slips.specs.Slips.{is_space, word_in, behind_word, signed, slip};
 
-use runs::{Alphabet, run_length};
+use runs::{AllBut, Alphabet, run_length};
 use sheets::rows::Row;
 use values::numbers::natural;
 
@@ -22,24 +22,13 @@ impl Alphabet for Spaces {
     }
 }
 
-// All bytes but a space.
-struct Ink;
-
-impl Alphabet for Ink {
-    ghost admits = { is_ink };
-
-    fn contains(byte: u8) -> bool {
-        byte != b' '
-    }
-}
-
 // The first word of a text, and what follows it.
 fn next_word<'a>(text: &'a [u8]) -> (&'a [u8], &'a [u8])
     ensures word { result.0.now ≡ word_in text.now }
     ensures rest { result.1.now ≡ behind_word text.now }
 {
     let (_, words) = text.split_at(run_length::<Spaces>(text));
-    words.split_at(run_length::<Ink>(words))
+    words.split_at(run_length::<AllBut<b' '>>(words))
 }
 
 // A number with a minus sign or without.

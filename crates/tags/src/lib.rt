@@ -7,13 +7,13 @@ ghost use Rattle.std.specs.Option.{option_map};
 ghost use Rattle.std.specs.Str.{bytes_eq};
 ghost use Rattle.lines.specs.Lines.{lines};
 ghost use Rattle.lines.specs.Walks.{seen};
-ghost use Rattle.tags.specs.Tags.{behind, is_name_byte, is_plain_byte, tag_of, well_formed};
+ghost use Rattle.tags.specs.Tags.{behind, is_name_byte, tag_of, well_formed};
 ghost use Rattle.tags.specs.Searches.{tags_checked, found_in, named, only};
 ghost use Rattle.tags.specs.Views.{told, found, founds};
 
 use faults::Fault;
 use lines::{Line, Lines};
-use runs::{Alphabet, run_length};
+use runs::{AllBut, Alphabet, run_length};
 
 const LONGEST_NAME: usize = 31;
 
@@ -35,17 +35,6 @@ impl Alphabet for NameBytes {
     }
 }
 
-// The bytes that can stand in a value: all but a double quote.
-struct ValueBytes;
-
-impl Alphabet for ValueBytes {
-    ghost admits = { is_plain_byte };
-
-    fn contains(byte: u8) -> bool {
-        byte != b'"'
-    }
-}
-
 // What follows a mark that the text begins with.
 fn behind<'a>(mark: &[u8], text: &'a [u8]) -> Option<&'a [u8]>
     ensures rest { option_map (λ x. x.now) result ≡ behind mark.now text.now }
@@ -60,7 +49,7 @@ pub fn parse_tag<'a>(line: &'a [u8]) -> Option<Tag<'a>>
     let inner = behind(b"[", line)?;
     let (name, rest) = inner.split_at(run_length::<NameBytes>(inner));
     let quoted = behind(b" \"", rest)?;
-    let (value, rest) = quoted.split_at(run_length::<ValueBytes>(quoted));
+    let (value, rest) = quoted.split_at(run_length::<AllBut<b'"'>>(quoted));
     let end = behind(b"\"]", rest)?;
     if name.is_empty() || name.len() > LONGEST_NAME || !end.is_empty() {
         return None;
