@@ -10,7 +10,7 @@ use cards::pack::suit;
 use cards::suits::Denomination;
 use notation::denomination_text;
 use text::page::Page;
-use tricks::winner;
+use tricks::Trick;
 use values::letters::{chair_letter, rank_letter};
 use writer::put_tag;
 
@@ -23,29 +23,29 @@ fn put_card(page: &mut Page, card: u8)
     }
 }
 
-// The card of a chair in a trick that the leader led.
-fn put_card_of(page: &mut Page, trick: &[u8], leader: Chair, chair: Chair)
-    requires { length trick.now ≡ 4 }
-    ensures wrote { Wrote (card_text (card_by leader trick.now chair)) page.old page.new }
+// The card of a chair in a trick.
+fn put_card_of(page: &mut Page, trick: &Trick, chair: Chair)
+    requires { length trick.now.cards.now ≡ 4 }
+    ensures wrote { Wrote (card_text (card_by trick.now.leader trick.now.cards.now chair)) page.old page.new }
 {
-    let place = (u8::from(chair) + 4 - u8::from(leader)) % 4;
-    put_card(page, trick[usize::from(place)]);
+    let place = (u8::from(chair) + 4 - u8::from(trick.leader)) % 4;
+    put_card(page, trick.cards[usize::from(place)]);
 }
 
 // A trick as a row: the opening leader's card in the first column, then clockwise.
-fn put_trick(page: &mut Page, trick: &[u8], leader: Chair, opening: Chair)
-    requires { length trick.now ≡ 4 }
-    ensures wrote { Wrote (text (trick_columns leader trick.now opening ∷ [])) page.old page.new }
+fn put_trick(page: &mut Page, trick: &Trick, opening: Chair)
+    requires { length trick.now.cards.now ≡ 4 }
+    ensures wrote { Wrote (text (trick_columns trick.now.leader trick.now.cards.now opening ∷ [])) page.old page.new }
 {
     let second = opening.next();
     let third = second.next();
-    put_card_of(page, trick, leader, opening);
+    put_card_of(page, trick, opening);
     page.put(b' ');
-    put_card_of(page, trick, leader, second);
+    put_card_of(page, trick, second);
     page.put(b' ');
-    put_card_of(page, trick, leader, third);
+    put_card_of(page, trick, third);
     page.put(b' ');
-    put_card_of(page, trick, leader, third.next());
+    put_card_of(page, trick, third.next());
     page.put(b'\n');
 }
 
@@ -53,9 +53,10 @@ fn put_tricks(page: &mut Page, trumps: Denomination, opening: Chair, cards: &[u8
     ensures wrote { Wrote (text (trick_rows trumps opening cards.now (tricks_in cards.now))) page.old page.new }
 {
     let mut leader = opening;
-    for trick in cards.chunks_exact(4) {
-        put_trick(page, trick, leader, opening);
-        leader = winner(trumps, leader, trick);
+    for cards in cards.chunks_exact(4) {
+        let trick = Trick { leader, cards };
+        put_trick(page, &trick, opening);
+        leader = trick.winner(trumps);
     }
 }
 

@@ -15,7 +15,7 @@ mod tests {
     use laws::{hand_left, ruling, seats};
     use rulings::Irregularity;
     use std::test::Fail;
-    use tricks::{Progress, Turn, led, winner};
+    use tricks::{Progress, Trick, Turn, led};
 
     const AUCTION: Auction = Auction {
         dealer: Chair::North,
@@ -48,7 +48,7 @@ mod tests {
     #[test]
     fn the_play(rt: HostRuntime) {
         let standing = AUCTION.standing();
-        for k in 0..52usize {
+        for (k, card) in CARDS.iter().enumerate() {
             let before = &CARDS[0..k];
             let progress = Progress::of(Denomination::NoTrump, Chair::West, before);
             let (asked, acting) = seats(progress.leader.ahead(k % 4), Some(Chair::West));
@@ -64,7 +64,7 @@ mod tests {
                 led: led(before),
                 hand: hand_left(&DEAL, before, acting),
             };
-            assert_eq!(rt; ruling(standing, turn, CARDS[k]), Ok(()));
+            assert_eq!(rt; ruling(standing, turn, *card), Ok(()));
             if k % 4 == 0 && k > 0 {
                 assert_eq!(rt; progress.leader, WINNERS[k / 4 - 1]);
             }
@@ -120,11 +120,16 @@ mod tests {
     #[test]
     fn tricks_by_hand(rt: HostRuntime) {
         for (trumps, cards, by) in TRICKS {
-            assert_eq!(rt; winner(trumps, Chair::West, &cards), by);
+            let trick = Trick {
+                leader: Chair::West,
+                cards: &cards,
+            };
+            assert_eq!(rt; trick.winner(trumps), by);
         }
-        assert_eq!(rt;
-            winner(Denomination::NoTrump, Chair::West, &[]),
-            Chair::West
-        );
+        let none = Trick {
+            leader: Chair::West,
+            cards: &[],
+        };
+        assert_eq!(rt; none.winner(Denomination::NoTrump), Chair::West);
     }
 }

@@ -84,25 +84,34 @@ fn beats(trumps: Denomination, best: u8, card: u8) -> bool
     }
 }
 
-// The chair that wins the cards of a trick, of which the leader played the first.
-pub fn winner(trumps: Denomination, leader: Chair, trick: &[u8]) -> Chair
-    ensures winner { result ≡ winner trumps leader trick.now }
-    ensures highest { HighestWins }
-{
-    let [first, rest @ ..] = trick else {
-        return leader;
-    };
-    let mut by = leader;
-    let mut best = *first;
-    let mut turn = leader;
-    for card in rest {
-        turn = turn.next();
-        if beats(trumps, best, *card) {
-            by = turn;
-            best = *card;
+// The cards of a trick, of which the leader played the first.
+#[derive(Clone, Copy)]
+pub struct Trick<'a> {
+    pub leader: Chair,
+    pub cards: &'a [u8],
+}
+
+impl Trick<'_> {
+    // The chair that wins the trick.
+    pub fn winner(&self, trumps: Denomination) -> Chair
+        ensures winner { result ≡ winner trumps self.now.leader self.now.cards.now }
+        ensures highest { HighestWins }
+    {
+        let [first, rest @ ..] = self.cards else {
+            return self.leader;
+        };
+        let mut by = self.leader;
+        let mut best = *first;
+        let mut turn = self.leader;
+        for card in rest {
+            turn = turn.next();
+            if beats(trumps, best, *card) {
+                by = turn;
+                best = *card;
+            }
         }
+        by
     }
-    by
 }
 
 // The suit led to the trick in progress; none if it has no card yet.
@@ -127,8 +136,8 @@ impl Progress {
     {
         let mut leader = declarer.next();
         let mut won = 0;
-        for trick in cards.chunks_exact(4) {
-            leader = winner(trumps, leader, trick);
+        for cards in cards.chunks_exact(4) {
+            leader = Trick { leader, cards }.winner(trumps);
             won += usize::from(leader.same_side(declarer));
         }
         Progress { leader, won }

@@ -8,7 +8,7 @@ use Rattle.archive.proofs.plays.put_trick.Goals as goal
 pub returns : goal.returns
 unfolding trick_columns
 returns c =
-    let card = λ (x : Chair). card_text (card_by c.args.leader c.args.trick.now x) in
+    let card = λ (x : Chair). card_text (card_by c.args.trick.now.leader c.args.trick.now.cards.now x) in
     let second = c.next-second.ensures.chair in
     let third = c.next-third.ensures.chair ∙ ap next second in
     let fourth = c.next.ensures.chair ∙ ap next third in

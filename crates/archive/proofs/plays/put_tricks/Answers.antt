@@ -9,8 +9,8 @@ use Rattle.writer.proofs.Lines.{lines_put}
 use Rattle.archive.specs.Records.{trick_columns, trick_rows}
 use Rattle.archive.proofs.plays.put_tricks.Goals as goal
 
-pub loop-trick-init : goal.loop-trick-init
-loop-trick-init c =
+pub loop-cards-init : goal.loop-cards-init
+loop-cards-init c =
     record {
       by_four = search rules;
       to_come = search rules;
@@ -20,28 +20,28 @@ loop-trick-init c =
     }
 
 pub put_trick-requires : goal.put_trick-requires
-put_trick-requires c = c.in-Some.ensures.steps.1.1 ∙ c.loop-trick.invariant.by_four
+put_trick-requires c = c.in-Some.ensures.steps.1.1 ∙ c.loop-cards.invariant.by_four
 
-pub loop-trick-preserved : goal.loop-trick-preserved
-loop-trick-preserved c =
+pub loop-cards-preserved : goal.loop-cards-preserved
+loop-cards-preserved c =
     let t = c.args.trumps in
     let l = c.args.opening in
     let cards = c.args.cards.now in
-    let k = length c.loop-trick.yielded in
-    let so_far = c.loop-trick.invariant in
+    let k = length c.loop-cards.yielded in
+    let so_far = c.loop-cards.invariant in
     let steps = c.in-Some.ensures.steps in
-    let next = next_trick t l cards k c.in-Some.trick.now _ so_far.whole (sym so_far.to_come ∙ steps.1.0) (steps.1.1 ∙ so_far.by_four) in
+    let next = next_trick t l cards k c.in-Some.cards.now _ so_far.whole (sym so_far.to_come ∙ steps.1.0) (steps.1.1 ∙ so_far.by_four) in
     let row = told (ap₂ (λ m cs. text (trick_columns m cs l ∷ [])) so_far.leads next.0) c.put_trick.ensures.wrote in
     simp length_push (record {
       by_four = steps.0 ∙ so_far.by_four;
       to_come = next.1;
       whole = next.2;
-      leads = c.winner-leader.ensures.winner ∙ leader_after t l cards k c.loop-trick.leader c.in-Some.trick.now so_far.leads next.0;
+      leads = c.winner-leader.ensures.winner ∙ leader_after t l cards k c.loop-cards.leader c.in-Some.cards.now so_far.leads next.0;
       wrote = told (ap (λ n. text (trick_rows t l cards n)) (sym (add-one k))) (lines_put (trick_rows t l cards k) (trick_columns (leader t l cards k) (trick cards k) l ∷ []) so_far.wrote row);
     })
 
 pub returns : goal.returns
 returns c =
-    let left = length-drop (4 * length c.loop-trick.yielded) c.args.cards.now in
-    let all : length c.loop-trick.yielded ≡ length c.args.cards.now / 4 = grind (arith, common_steps) in
-    record { wrote = told (ap (λ n. text (trick_rows c.args.trumps c.args.opening c.args.cards.now n)) all) c.loop-trick.invariant.wrote }
+    let left = length-drop (4 * length c.loop-cards.yielded) c.args.cards.now in
+    let all : length c.loop-cards.yielded ≡ length c.args.cards.now / 4 = grind (arith, common_steps) in
+    record { wrote = told (ap (λ n. text (trick_rows c.args.trumps c.args.opening c.args.cards.now n)) all) c.loop-cards.invariant.wrote }

@@ -1,5 +1,5 @@
 use Rattle.tricks.proofs.Winners.{highest_wins}
-use Rattle.tricks.proofs.winner.Goals as goal
+use Rattle.tricks.proofs.Trick.winner.Goals as goal
 
 pub returns-in_default-clause-highest : goal.returns-in_default-clause-highest
 returns-in_default-clause-highest c = highest_wins
