@@ -18,7 +18,7 @@ pub enum Refusal {
 }
 
 impl Refusal {
-    // The number of the question that was answered no.
+    // The number of the question that was answered no: by rule whoever asks for a record is told it.
     pub fn number(self) -> u8
         ensures number { result ≡ number self }
     {

@@ -26,7 +26,8 @@ pub enum Fault {
 }
 
 impl Fault {
-    // The layer of the reader that found it: 1 lines, 2 tags, 3 values.
+    // The layer of the reader that found it: 1 lines, 2 tags, 3 values. Layers and questions have numbers
+    // by rule, for whoever is told of a fault; code asks for the case.
     pub fn layer(self) -> u8
         ensures layer { result ≡ layer self }
     {

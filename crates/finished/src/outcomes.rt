@@ -20,6 +20,7 @@ fn outcome_of(auction: Auction, vulnerability: Vulnerability, cards: &[u8]) -> O
         return None;
     };
     let declarer = auction.declarer()?;
+    // Never more than 13, so `as` keeps them; `try_from` would add a refusal that never comes.
     let tricks = Progress::of(contract.denomination, declarer, cards).won as u8;
     let score = score_to_ns(contract, declarer, vulnerability, tricks)?;
     Some(Outcome {

@@ -16,8 +16,8 @@ use cards::suits::Suit;
 // The thirteen cards of the lowest suit.
 const CLUBS: u64 = 0x1fff;
 
-// The hand that a deal gives a chair: byte c of the deal names the chair that gets the card c.
-// It stays beside the function of crate cards, for it alone promises the law of what is dealt: one function would promise less.
+// The hand that a deal gives a chair: byte c of the deal names the chair that gets the card c. It asks
+// crate cards, and adds the law of what is dealt, whose proof each of that crate's edits would repeat.
 pub fn dealt(deal: &[u8; 52], chair: Chair) -> u64
     ensures hand { result ≡ dealt deal.now (code chair) }
     ensures deals { Deals }

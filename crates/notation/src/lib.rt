@@ -1,4 +1,5 @@
-// Calls as text: Pass, X, XX, and the bids from 1C to 7NT.
+// Calls as text: Pass, X, XX, and the bids from 1C to 7NT. Calls are bytes, and denominations and doublings
+// are types of crates below, so these are functions and no impls of FromStr or Display.
 
 #![tactic(auto)]
 

@@ -20,7 +20,7 @@ pub enum Irregularity {
 }
 
 impl Irregularity {
-    // The number of the question that was answered no.
+    // The number of the question that was answered no: by rule a player is told that number.
     pub fn number(self) -> u8
         ensures number { result ≡ number self }
     {

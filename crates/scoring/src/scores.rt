@@ -123,6 +123,8 @@ fn made_points(contract: Contract, vulnerable: bool, over: u32) -> u32
     bid + premiums + overtrick(contract, vulnerable) * over
 }
 
+// The score, signed. Points are small, so `as` keeps them; `try_from` would add a refusal that never comes.
+// A contract and its tricks have no one name in the game, so they are two parameters.
 fn points(contract: Contract, vulnerable: bool, tricks: u8) -> i32
     requires { tricks ≤ 13 }
     ensures score { result ≡ score_of contract.level contract.denomination contract.doubling vulnerable tricks }

@@ -47,7 +47,8 @@ const LIMITS: [u32; 24] = [
     2000, 2250, 2500, 3000, 3500, 4000,
 ];
 
-// The IMPs for a difference of a size: how many limits lie at or below it.
+// The IMPs for a difference of a size: how many limits lie at or below it. They are 24 at most, so `as`
+// keeps them; `try_from` would add a refusal that never comes.
 pub fn imps_for(size: u64) -> u8
     ensures count { result ≡ imp_count size }
     ensures bound { result ≤ 24 }

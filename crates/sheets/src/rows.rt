@@ -22,7 +22,7 @@ pub enum Refusal {
 }
 
 impl Refusal {
-    // The number of the question that was answered no.
+    // The number of the question that was answered no: by rule whoever adds a row is told that number.
     pub fn number(self) -> u8
         ensures number { result ≡ number self }
     {

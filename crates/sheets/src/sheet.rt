@@ -9,7 +9,8 @@ pub mod results;
 // The most rows that a sheet holds, however long its memory.
 pub const MOST_ROWS: usize = 128;
 
-// The memory is its owner's, who finds the rows there after the sheet: so a slice with a length beside it, and no `Vec`.
+// The memory is its owner's, who finds the rows there after the sheet: so a slice with a length beside
+// it, and no `Vec`.
 #[derive(Drop)]
 pub struct Sheet<'a> {
     rows: &'a mut [Row],

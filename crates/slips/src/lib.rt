@@ -9,7 +9,8 @@ use runs::{AllBut, Alphabet, run_length};
 use sheets::rows::Row;
 use values::numbers::natural;
 
-// The largest score that is read.
+// The largest score that is read. What `natural` has bounded `as` keeps; `try_from` would add a refusal
+// that never comes.
 const LARGEST: u32 = i32::MAX as u32;
 
 struct Spaces;

@@ -83,7 +83,7 @@ pub struct Found<'a> {
     pub value: &'a [u8],
 }
 
-// Are two texts the same, byte for byte?
+// Are two texts the same, byte for byte? It is part of what this crate offers; the crates here write `==`.
 pub fn is_same(name: &[u8], other: &[u8]) -> bool
     ensures same { result ≡ bytes_eq name.now other.now }
 {

@@ -1,4 +1,5 @@
-// The letters of chairs and ranks, and the words for a vulnerability: functions, since the types are those of `cards`.
+// The letters of chairs and ranks, and the words for a vulnerability: functions, since the types are those
+// of crate cards, and a rank is a number.
 ghost use Rattle.std.specs.Prelude.{◌≡◌};
 ghost use Rattle.values.specs.Letters.{chair_letter, chair_named, dealer_named, rank_letter, rank_named, vulnerability_named};
 
@@ -19,7 +20,7 @@ pub fn chair_letter(chair: Chair) -> u8
     }
 }
 
-// The letter of a rank. Every number has an answer: no rank is above 12, and 0, which is no letter, is the answer there.
+// The letter of a rank. Every number has an answer: no rank is above 12, and there it is 0, no letter.
 pub fn rank_letter(rank: u8) -> u8
     ensures letter { result ≡ rank_letter rank }
 {

@@ -25,7 +25,8 @@ fn vulnerability_word(vulnerability: Vulnerability) -> &'static [u8]
     }
 }
 
-// The letters of a chair's cards of a suit, the highest first.
+// The letters of a chair's cards of a suit, the highest first. By rule a rank is a number, so the loop goes
+// over numbers.
 fn put_suit(page: &mut Page, deal: &[u8; 52], chair: Chair, suit: Suit)
     ensures wrote { Wrote (suit_text deal.now chair suit) page.old page.new }
 {

@@ -59,7 +59,8 @@ impl Sheet<'_> {
         sum
     }
 
-    // What the results have to add up to: the rule's total for each two rows.
+    // What the results have to add up to: the rule's total for each two rows. Rows are few, so `as` keeps
+    // the meetings; `try_from` would add a refusal that never comes.
     pub fn share<C: Comparison>(&self) -> i64
         ensures share { result ≡ shared C.Comparison.TOTAL (length (held self.now)) }
     {
