@@ -26,9 +26,7 @@ impl Standing {
     pub fn contract(self) -> Option<Contract>
         ensures contract { option_map terms result ≡ contract_of self }
     {
-        let Some(bid) = self.bid else {
-            return None;
-        };
+        let bid = self.bid?;
         Contract::new(
             level(bid.call)?,
             denomination(bid.call)?,

@@ -16,6 +16,7 @@ fn outcome_of(auction: Auction, vulnerability: Vulnerability, cards: &[u8]) -> O
     requires { length cards.now ≤ 52 }
     ensures outcome { option_map told result ≡ came_to (board_of 0 auction.entry.dealer vulnerability [] auction.entry.calls.now cards.now) }
 {
+    // By rule of this project a contract is taken apart by `let Some .. else`.
     let Some(contract) = auction.standing().contract() else {
         return None;
     };

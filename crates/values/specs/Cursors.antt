@@ -1,9 +1,10 @@
 -- How a deal is read byte by byte: a cursor says whose hand it stands in, at which suit, and how many hands come after.
 --     cards_from n x s text      the cards that a text places from the suit s of chair x on, with n hands after this one
 --     layout d again o           the cards o laid on the deal d, and whether one repeats, or `again` says so
+--     Reads b k d r e            reading the byte b leads from the cursor k and the deal d to r and e
 --     outcome k d text           what comes of a text that the cursor k stands before, with d laid so far
 --     done r, filled old r       the answer to a Deal tag that is read so, and what the caller's 52 bytes hold after it
-use Rattle.std.specs.Prelude.{ℕ, ◌-◌, Bool, true, false, cond, List, [], ◌∷◌, is_some, Some, None, Ok, Option, Result, ◌==◌}
+use Rattle.std.specs.Prelude.{◌≡◌, ℕ, ◌-◌, Bool, true, false, cond, List, [], ◌∷◌, is_some, Some, None, Ok, Option, Result, ◌==◌}
 use Rattle.std.specs.Option.{option_map}
 use Rattle.std.specs.Result.{result_unwrap_or}
 use Rattle.cards.specs.declared.chairs.Chair.{Chair}
@@ -34,6 +35,10 @@ layout d again o = option_map (λ ps. record { deal = laid d ps; again = cond ag
 abbrev pub outcome : Option Cursor → List ℕ → List ℕ → Option Layout
 outcome None d text = None
 outcome (Some k) d text = layout d k.repeated (cards_from k.left k.chair k.suit text)
+
+-- r is where the cursor k stands behind the byte b, with d laid before it and e after it
+abbrev pub Reads : ℕ → Cursor → List ℕ → Option Cursor → List ℕ → Type 0
+Reads b k d r e = (text : List ℕ) → outcome r e text ≡ outcome (Some k) d (b ∷ text)
 
 abbrev pub start : Chair → Cursor
 start x = record { left = 3; chair = x; suit = Spades; repeated = false }

@@ -2,6 +2,7 @@
 --     extended most v b           the number that the digit b makes behind the number v, if it is at most `most`
 --     digits_from most v w        the number that the digits w make behind the number v, if it is at most `most`
 --     natural most w              the number that the digits w make, if there is one and it is at most `most`
+--     number_from v w             the number that the digits w make behind the number v, if it is at most 255
 --     board_number w              the board number that a text says: one to three digits, the first not 0, at most 255
 use Rattle.std.specs.Prelude.{ℕ, ◌+◌, ◌-◌, ◌*◌, Bool, false, cond, List, [], ◌∷◌, length, Some, None, Option, ◌==◌, nat_le, slice_index}
 use Rattle.tags.specs.Tags.{and_then}
@@ -19,5 +20,9 @@ digits_from most v (b ∷ bs) = and_then (extended most v b) (λ n. digits_from 
 abbrev pub natural : ℕ → List ℕ → Option ℕ
 natural most w = cond (length w == 0) None (digits_from most 0 w)
 
+abbrev pub number_from : ℕ → List ℕ → Option ℕ
+number_from v [] = cond (nat_le v 255) (Some v) None
+number_from v (b ∷ bs) = cond (is_digit b) (number_from (10 * v + (b - 48)) bs) None
+
 abbrev pub board_number : List ℕ → Option ℕ
-board_number w = cond (nat_le 1 (length w)) (cond (nat_le (length w) 3) (cond (slice_index w 0 == 48) None (natural 255 w)) None) None
+board_number w = cond (nat_le 1 (length w)) (cond (nat_le (length w) 3) (cond (slice_index w 0 == 48) None (number_from 0 w)) None) None

@@ -2,7 +2,7 @@
 ghost use Rattle.std.specs.Prelude.{◌≡◌, ℕ, ◌<◌, false, List, [], ◌∷◌, Some, IfSome, ◌≢◌};
 ghost use Rattle.tags.specs.Views.{found};
 ghost use Rattle.values.specs.Deals.{card_named, cards_placed, deal_read};
-ghost use Rattle.values.specs.Cursors.{outcome, start, layout, laid_as, done, filled};
+ghost use Rattle.values.specs.Cursors.{Reads, outcome, start, layout, laid_as, done, filled};
 
 use crate::letters::{chair_named, rank_named};
 use cards::chairs::Chair;
@@ -12,7 +12,7 @@ use cards::suits::Suit;
 use faults::Fault;
 use tags::Found;
 
-// In place of a chair, where no card has been laid; a deal is 52 bytes, and no chair has this one.
+// In place of a chair, where no card has been laid: by rule a deal is 52 bytes, and 4 is no chair.
 const NOBODY: u8 = 4;
 
 // The card of a suit and a rank's letter.
@@ -37,7 +37,7 @@ struct Cursor {
 impl Cursor {
     // Reads a byte more of the deal, and lays out the card that it names.
     fn read(self, byte: u8, laid: &mut [u8; 52]) -> Option<Cursor>
-        ensures reads { (text : List ℕ) → outcome result laid.new text ≡ outcome (Some self) laid.old (byte ∷ text) }
+        ensures reads { Reads byte self laid.old result laid.new }
     {
         match byte {
             b' ' => self.next_hand(),
@@ -48,7 +48,7 @@ impl Cursor {
 
     // Goes on to the hand of the next chair.
     fn next_hand(self) -> Option<Cursor>
-        ensures reads { (d text : List ℕ) → outcome result d text ≡ outcome (Some self) d (32 ∷ text) }
+        ensures reads { (d : List ℕ) → Reads 32 self d result d }
     {
         if self.left == 0 || self.suit.lower().is_some() {
             return None;
@@ -63,7 +63,7 @@ impl Cursor {
 
     // Goes on to the next lower suit of the hand.
     fn next_suit(self) -> Option<Cursor>
-        ensures reads { (d text : List ℕ) → outcome result d text ≡ outcome (Some self) d (46 ∷ text) }
+        ensures reads { (d : List ℕ) → Reads 46 self d result d }
     {
         let suit = self.suit.lower()?;
         Some(Cursor { suit, ..self })
@@ -72,7 +72,7 @@ impl Cursor {
     // Lays out a card of the suit.
     fn lay(self, byte: u8, laid: &mut [u8; 52]) -> Option<Cursor>
         requires { (byte ≢ 32) × (byte ≢ 46) }
-        ensures reads { (text : List ℕ) → outcome result laid.new text ≡ outcome (Some self) laid.old (byte ∷ text) }
+        ensures reads { Reads byte self laid.old result laid.new }
     {
         let card = usize::from(card_named(self.suit, char::from(byte))?);
         let repeated = self.repeated || laid[card] != NOBODY;

@@ -2,7 +2,7 @@
 ghost use Rattle.std.specs.Prelude.{◌≡◌, ◌≤◌, IfSome};
 ghost use Rattle.values.specs.Numbers.{board_number, extended, is_digit, natural};
 
-// Is the byte a decimal digit?
+// Is the byte a decimal digit? It is part of what this crate offers; the crates here ask the library.
 pub fn is_digit(byte: u8) -> bool
     ensures digit { result ≡ is_digit byte }
 {
@@ -21,7 +21,8 @@ fn extended(number: u32, byte: u8, most: u32) -> Option<u32>
         .filter(|n| *n <= most)
 }
 
-// The number that decimal digits make, if it is no larger than `most`.
+// The number that decimal digits make, if it is no larger than `most`. The library's `parse` would take a
+// plus sign too.
 pub fn natural(word: &[u8], most: u32) -> Option<u32>
     ensures number { result ≡ natural most word.now }
     ensures small { IfSome result (λ n. n ≤ most) }

@@ -68,7 +68,7 @@ impl<'a> Sheet<'a> {
         if !score_fits(row.score) {
             return Err(Refusal::WrongScore);
         }
-        // The lent memory is written field by field.
+        // By rule of this project lent rows are written field by field.
         self.rows[used].ns = row.ns;
         self.rows[used].ew = row.ew;
         self.rows[used].score = row.score;

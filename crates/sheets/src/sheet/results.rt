@@ -21,27 +21,26 @@ fn against<C: Comparison>(score: i32, rows: &[Row]) -> i64
     sum
 }
 
-// The result of one of the rows: its sum against all others.
-fn result_at<C: Comparison>(rows: &[Row], i: usize) -> i64
-    requires row { i < length rows.now }
-    requires few { length rows.now ≤ 128 }
-    ensures result { result ≡ result_of C.Comparison.compared rows.now i }
-    ensures bound { unsigned_abs result ≤ 2 ^ 39 }
-{
-    let score = rows[i].score;
-    against::<C>(score, &rows[..i]) + against::<C>(score, &rows[i + 1..])
-}
-
 impl Sheet<'_> {
+    // The result of a row that is there: its sum against all others.
+    fn result_at<C: Comparison>(&self, i: usize) -> i64
+        requires { i < length (held self.now) }
+        ensures result { result ≡ result_of C.Comparison.compared (held self.now) i }
+        ensures bound { unsigned_abs result ≤ 2 ^ 39 }
+    {
+        let rows = self.rows();
+        let score = rows[i].score;
+        against::<C>(score, &rows[..i]) + against::<C>(score, &rows[i + 1..])
+    }
+
     // The result of a row, counted from 0: its sum against all other rows.
     pub fn result<C: Comparison>(&self, i: usize) -> Result<i64, Refusal>
         ensures answer { result ≡ answered C.Comparison.compared (held self.now) i }
     {
-        let rows = self.rows();
-        if i >= rows.len() {
+        if i >= self.used {
             return Err(Refusal::NoRow);
         }
-        Ok(result_at::<C>(rows, i))
+        Ok(self.result_at::<C>(i))
     }
 
     // The sum of all results: by the law, the rule's total for each two rows.
@@ -54,7 +53,7 @@ impl Sheet<'_> {
         // A row's result leaves that row out, so it is asked for by its place.
         let mut sum: i64 = 0;
         for i in 0..rows.len() {
-            sum += result_at::<C>(rows, i);
+            sum += self.result_at::<C>(i);
         }
         sum
     }
