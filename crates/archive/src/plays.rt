@@ -28,8 +28,7 @@ fn put_card_of(page: &mut Page, trick: &Trick, chair: Chair)
     requires { length trick.now.cards.now ≡ 4 }
     ensures wrote { Wrote (card_text (card_by trick.now.leader trick.now.cards.now chair)) page.old page.new }
 {
-    let place = (u8::from(chair) + 4 - u8::from(trick.leader)) % 4;
-    put_card(page, trick.cards[usize::from(place)]);
+    put_card(page, trick.cards[chair.place(trick.leader)]);
 }
 
 // A trick as a row: the opening leader's card in the first column, then clockwise.

@@ -8,7 +8,7 @@ ghost use Rattle.auctions.specs.Outcomes.{terms};
 ghost use Rattle.finished.specs.Outcomes.{told};
 ghost use Rattle.notation.specs.Notation.{call_text};
 
-use cards::chairs::Chair;
+use auctions::Auction;
 use finished::Outcome;
 use notation::{denomination_text, doubling_text, put_call};
 use scoring::contracts::Contract;
@@ -71,9 +71,9 @@ fn put_calls(page: &mut Page, calls: &[u8])
     }
 }
 
-pub(crate) fn put_auction(page: &mut Page, dealer: Chair, calls: &[u8])
-    ensures wrote { Wrote (text (auction_lines dealer calls.now)) page.old page.new }
+pub(crate) fn put_auction(page: &mut Page, auction: &Auction)
+    ensures wrote { Wrote (text (auction_lines auction.now.dealer auction.now.calls.now)) page.old page.new }
 {
-    put_tag(page, b"Auction", &[chair_letter(dealer)]);
-    put_calls(page, calls);
+    put_tag(page, b"Auction", &[chair_letter(auction.dealer)]);
+    put_calls(page, auction.calls);
 }

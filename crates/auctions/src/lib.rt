@@ -3,7 +3,7 @@
 #![tactic(auto)]
 
 ghost use Rattle.std.specs.Prelude.{◌≡◌};
-ghost use Rattle.auctions.specs.Auctions.{call_ruling, called, height, is_over, opponents_call, standing, start};
+ghost use Rattle.auctions.specs.Auctions.{call_ruling, called, is_over, opponents_call, standing, start};
 ghost use Rattle.auctions.specs.Laws.{AtMost319, DoubledByOpponents, Lasts, PassIsLawful, Steps, Turns};
 ghost use Rattle.rulings.specs.Rulings.{ruling};
 
@@ -99,13 +99,6 @@ impl Standing {
         }
     }
 
-    // The number of the last bid, 0 with none.
-    fn height(self) -> u8
-        ensures height { result ≡ height self.bid }
-    {
-        self.bid.map_or(0, |bid| bid.call)
-    }
-
     // The last call other than Pass, if an opponent of the chair in turn made it.
     fn opponents_call(self) -> Option<u8>
         ensures call { result ≡ opponents_call self.turn self.action }
@@ -121,7 +114,9 @@ impl Standing {
     {
         match call {
             38.. => Err(Irregularity::NoSuchAct),
-            3.. if call <= self.height() => Err(Irregularity::InsufficientBid),
+            3.. if self.bid.is_some_and(|bid| call <= bid.call) => {
+                Err(Irregularity::InsufficientBid)
+            }
             DOUBLE if !self.opponents_call().is_some_and(is_bid) => {
                 Err(Irregularity::InadmissibleDouble)
             }

@@ -48,7 +48,7 @@ impl TryFrom<u8> for Vulnerability {
 }
 
 // The dealer of a board: North deals board 1, and the deal goes clockwise. A remainder by four always
-// has a chair.
+// has a chair, and below a vulnerability.
 pub fn dealer_of(number: u8) -> Chair
     ensures chair { result ≡ dealer number }
     ensures code { chair_code result ≡ (number - 1) % 4 }

@@ -1,4 +1,5 @@
-// Calls, each a byte: Pass, Double, Redouble, and the 35 bids in rising order.
+// Calls: Pass, Double, Redouble, and the 35 bids in rising order. By rule each is a byte and no enum: a
+// player answers with any byte, and that one above 37 is no call is a ruling.
 ghost use Rattle.std.specs.Prelude.{◌≡◌};
 ghost use Rattle.cards.specs.Calls.{bid_of, is_bid, level_of, denomination_of};
 

@@ -1,6 +1,6 @@
 // The four chairs of a table, clockwise.
 ghost use Rattle.std.specs.Prelude.{◌≡◌, ◌+◌, ◌%◌, ◌<◌, ok_or};
-ghost use Rattle.cards.specs.Chairs.{Clockwise, ahead, code, next, partner, same_side, with_code};
+ghost use Rattle.cards.specs.Chairs.{Clockwise, ahead, code, next, partner, place, same_side, with_code};
 ghost use Rattle.cards.specs.Codes.{unknown};
 
 use crate::codes::UnknownCode;
@@ -77,6 +77,14 @@ impl Chair {
             2 => self.partner(),
             _ => self.partner().next(),
         }
+    }
+
+    // How many places after the leader, clockwise, the chair sits.
+    pub fn place(self, leader: Chair) -> usize
+        ensures place { result ≡ place leader self }
+        ensures small { result < 4 }
+    {
+        usize::from((u8::from(self) + 4 - u8::from(leader)) % 4)
     }
 
     // Are the two one chair, or partners?

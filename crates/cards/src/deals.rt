@@ -1,4 +1,5 @@
-// Deals: 52 bytes, of which byte c names the chair that gets the card c.
+// Deals. By rule a deal is 52 bytes in its caller's memory, of which byte c names the chair that gets the
+// card c; so it goes as it is, with a chair, from function to function.
 ghost use Rattle.std.specs.Prelude.{◌≡◌};
 ghost use Rattle.cards.specs.Chairs.{code};
 ghost use Rattle.cards.specs.Deals.{count, thirteen_each};

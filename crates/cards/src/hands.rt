@@ -1,4 +1,4 @@
-// Hands. A hand is a number whose bit c is set when it holds the card c.
+// Hands. By rule a hand is a number of 64 bits, whose bit c is set when it holds the card c.
 ghost use Rattle.std.specs.Prelude.{◌≡◌};
 ghost use Rattle.cards.specs.Chairs.{code};
 ghost use Rattle.cards.specs.Hands.{holds, dealt};

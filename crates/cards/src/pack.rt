@@ -1,4 +1,5 @@
-// The 52 cards of the pack, each a byte: 13 times its suit and its rank, from 0 for the two to 12 for the ace.
+// The 52 cards of the pack: 13 times the suit and the rank, from 0 for the two to 12 for the ace. By rule
+// each is a byte, as a player answers it and a deal counts it.
 ghost use Rattle.std.specs.Prelude.{◌≡◌};
 ghost use Rattle.cards.specs.Pack.{card_of, suit_of, rank_of};
 

@@ -83,7 +83,7 @@ fn read_values(header: Header, deal: &mut [u8; 52]) -> Result<u8, Fault>
 }
 
 // Reads a file of one game: answers its board number, and byte c of `deal` then names the chair that
-// gets the card c. A refusal leaves the bytes as they were.
+// gets the card c. By rule the 52 bytes are the caller's, and a refusal leaves them as they were.
 pub fn read(file: &[u8], deal: &mut [u8; 52]) -> Result<u8, Fault>
     ensures answer { result ≡ number_in (file_read file.now) }
     ensures bytes { deal.new ≡ deal_in deal.old (file_read file.now) }

@@ -5,7 +5,7 @@
 ghost use Rattle.std.specs.Prelude.{◌≡◌, ℕ, ◌≤◌, Bool, not, length, ◌==◌};
 ghost use Rattle.std.specs.List.{prefix_len};
 
-// Which bytes belong.
+// Which bytes belong. A trait and no closure: the clause of `run_length` names its test, `admits`.
 pub trait Alphabet {
     ghost admits: { ℕ → Bool };
 

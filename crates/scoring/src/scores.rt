@@ -1,5 +1,5 @@
 // The score of a contract, from bid points, premiums and penalties.
-ghost use Rattle.std.specs.Prelude.{◌≡◌, ◌<◌, ◌≤◌, MatchOption, unsigned_abs};
+ghost use Rattle.std.specs.Prelude.{◌≡◌, ◌<◌, ◌≤◌, IfSome, unsigned_abs};
 ghost use Rattle.scoring.specs.Laws.{Worked, Tens, Rises};
 ghost use Rattle.scoring.specs.Scores.{trick_points, bid_points, game_premium, slam_premium, insult, overtrick, doubled_down, undertricks, made_points, score as score_of, scored, is_vulnerable, scored_ns};
 
@@ -141,7 +141,7 @@ fn points(contract: Contract, vulnerable: bool, tricks: u8) -> i32
 // The score of declarer's side for a contract and so many tricks; no side has more than 13.
 pub fn score(contract: Contract, vulnerable: bool, tricks: u8) -> Option<i32>
     ensures score { result ≡ scored contract vulnerable tricks }
-    ensures bounded { MatchOption result (⊥ → ⊥) (λ z. unsigned_abs z ≤ 7600) }
+    ensures bounded { IfSome result (λ z. unsigned_abs z ≤ 7600) }
     ensures worked { Worked }
     ensures tens { Tens }
     ensures rises { Rises }

@@ -107,10 +107,10 @@ pub fn find<'a>(file: &'a [u8], name: &[u8]) -> Result<Found<'a>, Fault>
 {
     let mut found = None;
     for line in Lines::of(file) {
-        if let Some(tag) = found_in(line, name) {
-            if found.replace(tag).is_some() {
-                return Err(Fault::TagNotOnce);
-            }
+        if let Some(tag) = found_in(line, name)
+            && found.replace(tag).is_some()
+        {
+            return Err(Fault::TagNotOnce);
         }
     }
     found.ok_or(Fault::TagNotOnce)

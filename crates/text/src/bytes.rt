@@ -4,7 +4,7 @@ ghost use Rattle.std.specs.Prelude.{◌≡◌, ◌≤◌, [], ◌∷◌, length}
 use itoa::{Buffer, Integer};
 
 // The first bytes of an array, as many as are used.
-// No ArrayVec of the kit: a finished board is copied with its calls and cards, and that one is no Copy.
+// Not the kit's `ArrayVec`, which is no `Copy`: a finished board is copied with its calls and cards.
 #[derive(Clone, Copy)]
 pub struct Bytes<const N: usize> {
     bytes: [u8; N],

@@ -129,7 +129,7 @@ mod tests {
     #[test]
     fn imps_at_each_limit(rt: HostRuntime) {
         for (i, limit) in LIMITS.iter().enumerate() {
-            // As above: with (1..=24).zip(..) it was not proved that -points fits.
+            // An index, since with (1..=24).zip(..) it was not proved that -points fits.
             let points = i as i32 + 1;
             assert_eq!(rt; Imps::compare(*limit, 0), points);
             assert_eq!(rt; Imps::compare(0, *limit), -points);

@@ -1,5 +1,5 @@
 // The letters of chairs and ranks, and the words for a vulnerability: functions, since the types are those
-// of crate cards, and a rank is a number.
+// of crate cards, which knows no text, and a rank is a number.
 ghost use Rattle.std.specs.Prelude.{◌≡◌};
 ghost use Rattle.values.specs.Letters.{chair_letter, chair_named, dealer_named, rank_letter, rank_named, vulnerability_named};
 

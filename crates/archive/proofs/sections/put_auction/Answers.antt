@@ -10,4 +10,4 @@ use Rattle.archive.proofs.sections.put_auction.Goals as goal
 pub returns : goal.returns
 returns c =
     let tag = told (ap (λ (b : ℕ). text (tag_line (codes "Auction") (b ∷ []) ∷ [])) c.chair_letter.ensures.letter) c.put_tag.ensures.wrote in
-    record { wrote = more_lines (tag_line (codes "Auction") (chair_letter c.args.dealer ∷ [])) (rows (map call_text c.args.calls.now)) tag c.put_calls.ensures.wrote }
+    record { wrote = more_lines (tag_line (codes "Auction") (chair_letter c.args.auction.now.dealer ∷ [])) (rows (map call_text c.args.auction.now.calls.now)) tag c.put_calls.ensures.wrote }
