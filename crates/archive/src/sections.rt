@@ -33,6 +33,7 @@ pub(crate) fn put_passed_out(page: &mut Page)
     put_tag(page, b"Score", b"NS 0");
 }
 
+// Contract, tricks and score are made on the page itself, so there is no value to hand to `put_tag`.
 pub(crate) fn put_outcome(page: &mut Page, outcome: Outcome)
     ensures wrote { Wrote (text (outcome_lines (Some (told outcome)))) page.old page.new }
 {

@@ -80,7 +80,8 @@ pub fn put_tag(page: &mut Page, name: &[u8], value: &[u8])
     page.put_all(b"\"]\n");
 }
 
-// The four tag lines of a board; the deal starts with the dealer.
+// The four tag lines of a board; the deal starts with the dealer. Number and deal are made on the page
+// itself, so there is no value to hand to `put_tag`.
 pub fn put_tags(
     page: &mut Page,
     number: u8,

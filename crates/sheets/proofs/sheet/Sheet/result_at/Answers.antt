@@ -1,7 +1,7 @@
-use Rattle.std.proofs.Common.{◌≡◌, ◌<◌, length, take, drop, ◌+◌, arith, w32, SFits, rules}
+use Rattle.std.proofs.Common.{◌≡◌, take, drop, ◌+◌, arith, w32, SFits, rules}
 use Rattle.std.proofs.lemmas.Int.{ints, to_z-of_z}
 use Rattle.std.proofs.lemmas.List.{take_rest}
-use Rattle.sheets.specs.Results.{score_at, against, result_of}
+use Rattle.sheets.specs.Results.{score_at, against}
 use Rattle.sheets.proofs.Sums.{result_split}
 use Rattle.sheets.proofs.sheet.Sheet.result_at.Goals as goal
 

@@ -1,6 +1,6 @@
-use Rattle.std.proofs.Common.{◌≡◌, length, refl, ap, ◌∙◌, sym, arith}
+use Rattle.std.proofs.Common.{◌≡◌, length, ap, ◌∙◌, arith}
 use Rattle.std.proofs.lemmas.Int.{ints}
-use Rattle.sheets.specs.Results.{sum_to, shared}
+use Rattle.sheets.specs.Results.{sum_to}
 use Rattle.sheets.specs.Sheets.{held}
 use Rattle.sheets.proofs.Sums.{adds_up, sum_more}
 use Rattle.sheets.proofs.sheet.Sheet.sum.Goals as goal
