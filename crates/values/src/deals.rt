@@ -23,9 +23,9 @@ fn card_named(suit: Suit, letter: char) -> Option<u8>
     card(suit, rank_named(letter)?)
 }
 
-// How far a deal is read, in one pass over its bytes: how many hands come after this one, whose hand it is, at which suit it
-// stands, and whether a card has repeated. Reading goes on after that, since a deal that is malformed
-// further on is refused as malformed.
+// How far a deal is read, in one pass over its bytes: how many hands come after this one, whose hand it
+// is, at which suit it stands, and whether a card has repeated. Reading goes on after that, since a deal
+// that is malformed further on is refused as malformed.
 #[derive(Clone, Copy)]
 struct Cursor {
     left: u8,
