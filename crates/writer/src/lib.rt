@@ -14,6 +14,7 @@ use faults::Fault;
 use text::page::Page;
 use values::letters::{chair_letter, rank_letter};
 
+// The word for a vulnerability: a function, since the type is of crate cards, which knows no text.
 fn vulnerability_word(vulnerability: Vulnerability) -> &'static [u8]
     ensures word { result.now ≡ vulnerability_word vulnerability }
 {
