@@ -1,7 +1,7 @@
 -- What a board came to, from its parts.
-use Rattle.std.proofs.Common.{◌≡◌, ℕ, ◌≤◌, leb, ℤ, nat_abs, Some, None, Option, unwrap_or, sym, ap, subst, arith}
+use Rattle.std.proofs.Common.{◌≡◌, ℕ, ◌≤◌, leb, ℤ, nat_abs, Some, None, unwrap_or, sym, ap, subst, arith}
 use Rattle.std.proofs.lemmas.Int.{ints}
-use Rattle.auctions.specs.Outcomes.{Terms, contract_of, terms}
+use Rattle.auctions.specs.Outcomes.{contract_of}
 use Rattle.cards.specs.declared.boards.Vulnerability.{Vulnerability}
 use Rattle.cards.specs.declared.chairs.Chair.{Chair}
 use Rattle.cards.specs.declared.chairs.Chair.TheVariants.{North, East, South, West}
@@ -12,7 +12,7 @@ use Rattle.scoring.specs.Scores.{is_vulnerable, score, scored_ns, to_ns}
 use Rattle.scoring.proofs.Computed.{tens}
 use Rattle.tricks.specs.Tricks.{tricks_in, won}
 use Rattle.laws.specs.History.{Board, auction_of, declarer_on, denomination_in}
-use Rattle.finished.specs.Outcomes.{Came, came, came_to}
+use Rattle.finished.specs.Outcomes.{came, came_to}
 
 -- a score that is there is that of the contract
 scored_as : (k : Contract) (c : Chair) (v : Vulnerability) (t : ℕ) (z : ℤ) → Some z ≡ scored_ns k c v t → z ≡ to_ns c (score k.level k.denomination k.doubling (is_vulnerable v c) t)
@@ -30,23 +30,6 @@ pub score_small : (k : Contract) (c : Chair) (v : Vulnerability) (t : ℕ) (z : 
 score_small k c v t z few e =
     let s = score k.level k.denomination k.doubling (is_vulnerable v c) t in
     subst (λ y. nat_abs y ≤ 7600) (sym (scored_as k c v t z e)) (to_ns_small c s (tens k.level k.denomination k.doubling (is_vulnerable v c) t k.least k.most few).0)
-
-module _ (b : Board) (k : Contract) (c : Chair) (t : ℕ) (z : ℤ) where
-  -- the tricks that a contract with its declarer wins on the board
-  abbrev tricks : Option Terms → Option Chair → ℕ
-  tricks o x = won (denomination_in o) (next (unwrap_or x b.dealer)) b.cards (unwrap_or x b.dealer) (tricks_in b.cards)
-
-  came_by : (o : Option Terms) (x : Option Chair) → Some (terms k) ≡ o → Some c ≡ x → t ≡ tricks (Some (terms k)) (Some c) → Some z ≡ scored_ns k c b.vulnerability t
-      → Some (record { contract = terms k; declarer = c; tricks = t; score = z }) ≡ came b.vulnerability (tricks o x) o x
-  came_by o x p q e s =
-      subst (λ y. ◌≡◌ {A = Option Came} (Some (record { contract = terms k; declarer = c; tricks = t; score = z })) (came b.vulnerability (tricks y x) y x)) p
-      (subst (λ y. ◌≡◌ {A = Option Came} (Some (record { contract = terms k; declarer = c; tricks = t; score = z })) (came b.vulnerability (tricks (Some (terms k)) y) (Some (terms k)) y)) q
-      (subst (λ n. ◌≡◌ {A = Option Came} (Some (record { contract = terms k; declarer = c; tricks = t; score = z })) (came b.vulnerability n (Some (terms k)) (Some c))) e
-      (ap (λ y. Some (record { contract = terms k; declarer = c; tricks = t; score = y })) (scored_as k c b.vulnerability t z s))))
-
-  pub came_as : Some (terms k) ≡ contract_of (auction_of b) → Some c ≡ declarer_on b → t ≡ won k.denomination (next c) b.cards c (tricks_in b.cards) → Some z ≡ scored_ns k c b.vulnerability t
-      → Some (record { contract = terms k; declarer = c; tricks = t; score = z }) ≡ came_to b
-  came_as = came_by (contract_of (auction_of b)) (declarer_on b)
 
 pub came_none : (b : Board) → None ≡ contract_of (auction_of b) → None ≡ came_to b
 came_none b e = ap (λ o. came b.vulnerability (won (denomination_in o) (next (unwrap_or (declarer_on b) b.dealer)) b.cards (unwrap_or (declarer_on b) b.dealer) (tricks_in b.cards)) o (declarer_on b)) e

@@ -1,7 +1,7 @@
 -- The results of all rows add up, under every rule that names its total.
-use Rattle.std.proofs.Common.{◌≡◌, ℕ, zero, suc, ◌+◌, ◌-◌, ◌*◌, ◌/◌, ◌<◌, ◌≤◌, List, [], ◌∷◌, ◌++◌, length, take, drop, ℤ, pos, ◌+ℤ◌, ◌*ℤ◌, sym, refl, ap, ◌∙◌, suc-mul, suc-add, zero-add, mul-suc, add-one, arith}
+use Rattle.std.proofs.Common.{◌≡◌, ℕ, zero, suc, ◌+◌, ◌-◌, ◌*◌, ◌/◌, ◌<◌, List, [], ◌∷◌, ◌++◌, length, take, drop, ℤ, pos, ◌+ℤ◌, ◌*ℤ◌, sym, refl, ap, ◌∙◌, suc-mul, suc-add, zero-add, mul-suc, add-one, arith}
 use lib.IntN.{*ℤ_comm, *ℤ-zero, suc_ℤ-*ℤ}
-use Rattle.std.proofs.lemmas.List.{at_drop_more, at_drop_all}
+use Rattle.std.proofs.lemmas.List.{at_drop_more}
 use Rattle.std.proofs.lemmas.Int.{ints}
 use Rattle.sheets.specs.declared.rows.Row.{Row}
 use Rattle.sheets.specs.Rows.{blank}
@@ -23,9 +23,6 @@ against_append f a (x ∷ xs) ys = let ih = against_append f a xs ys in omega (a
 
 pub against_more : (f : ℤ → ℤ → ℤ) (a : ℤ) (rows : List Row) (j : ℕ) → j < length rows → against f a (drop j rows) ≡ f a (score_at rows j) +ℤ against f a (drop (j + 1) rows)
 against_more f a rows j h = at_drop_more (against f a) rows j blank h
-
-pub against_none : (f : ℤ → ℤ → ℤ) (a : ℤ) (rows : List Row) (j : ℕ) → length rows ≤ j → against f a (drop j rows) ≡ pos 0
-against_none f a rows j h = at_drop_all (against f a) rows j h
 
 pub result_split : (f : ℤ → ℤ → ℤ) (rows : List Row) (i : ℕ) → result_of f rows i ≡ against f (score_at rows i) (take i rows) +ℤ against f (score_at rows i) (drop (i + 1) rows)
 result_split f rows i = against_append f (score_at rows i) (take i rows) (drop (suc i) rows) ∙ simp add-one

@@ -1,5 +1,4 @@
-use Rattle.std.proofs.Common.{◌≡◌, ◌∷◌, [], ◌*◌, ◌/◌, length, sym, refl, ap, ◌∙◌, ap₂, add-one, arith, rules, length-drop}
-use Rattle.std.proofs.lemmas.Grind.{common_steps}
+use Rattle.std.proofs.Common.{◌∷◌, [], length, sym, refl, ap, ◌∙◌, ap₂, add-one, arith, rules}
 use Rattle.std.proofs.lemmas.List.{length_push}
 use Rattle.text.proofs.Writes.{nothing, told}
 use Rattle.tricks.specs.Tricks.{leader, trick}
@@ -19,9 +18,6 @@ loop-cards-init c =
       wrote = nothing _;
     }
 
-pub put_trick-requires : goal.put_trick-requires
-put_trick-requires c = c.in-Some.ensures.steps.1.1 ∙ c.loop-cards.invariant.by_four
-
 pub loop-cards-preserved : goal.loop-cards-preserved
 loop-cards-preserved c =
     let t = c.args.trumps in
@@ -39,9 +35,3 @@ loop-cards-preserved c =
       leads = c.winner-leader.ensures.winner ∙ leader_after t l cards k c.loop-cards.leader c.in-Some.cards.now so_far.leads next.0;
       wrote = told (ap (λ n. text (trick_rows t l cards n)) (sym (add-one k))) (lines_put (trick_rows t l cards k) (trick_columns (leader t l cards k) (trick cards k) l ∷ []) so_far.wrote row);
     })
-
-pub returns : goal.returns
-returns c =
-    let left = length-drop (4 * length c.loop-cards.yielded) c.args.cards.now in
-    let all : length c.loop-cards.yielded ≡ length c.args.cards.now / 4 = grind (arith, common_steps) in
-    record { wrote = told (ap (λ n. text (trick_rows c.args.trumps c.args.opening c.args.cards.now n)) all) c.loop-cards.invariant.wrote }

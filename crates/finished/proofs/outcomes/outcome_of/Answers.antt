@@ -1,10 +1,9 @@
-use Rattle.std.proofs.Common.{◌≡◌, ◌≤◌, [], ℤ, nat_abs, Some, sym, ap, ◌∙◌, subst, arith, w32, to_z, of_z}
+use Rattle.std.proofs.Common.{◌≡◌, ◌≤◌, [], ℤ, nat_abs, sym, ap, ◌∙◌, subst, arith, w32, to_z, of_z}
 use Rattle.std.specs.Option.{option_map}
 use Rattle.std.proofs.lemmas.Int.{ints}
 use Rattle.auctions.specs.Outcomes.{contract_of, terms}
-use Rattle.tricks.specs.declared.Progress.{Progress}
 use Rattle.finished.specs.Finished.{board_of}
-use Rattle.finished.proofs.Scored.{came_none, came_as, score_small}
+use Rattle.finished.proofs.Scored.{came_none, score_small}
 use Rattle.finished.proofs.outcomes.outcome_of.Goals as goal
 
 pub returns-in_default : goal.returns-in_default
@@ -21,17 +20,3 @@ invariant_of-result c =
     let few : c.of-tricks.result.won ≤ 13 = omega (arith, c.of-tricks.ensures.few, c.requires) in
     let small = score_small c.in-Some.contract c.in_ok-declarer.declarer c.args.vulnerability c.of-tricks.result.won c.in_ok-score.score few c.in_ok-score.ensures.score in
     record { few = few; bounded = subst (λ z. nat_abs z ≤ 7600) (sym (same c.in_ok-score.score small)) small }
-
-pub returns : goal.returns
-returns c =
-    let b = board_of 0 c.args.auction.dealer c.args.vulnerability [] c.args.auction.calls.now c.args.cards.now in
-    let k = c.in-Some.contract in
-    let x = c.in_ok-declarer.declarer in
-    let t = c.of-tricks.result.won in
-    let z = c.in_ok-score.score in
-    let score = c.in_ok-score.ensures.score in
-    let contract = ap (option_map terms) (sym c.in-Some.is) ∙ c.contract.ensures.contract ∙ ap contract_of c.standing.ensures.standing in
-    let declarer = sym c.in_ok-declarer.was ∙ c.declarer.ensures.declarer in
-    let tricks = ap (λ (p : Progress). p.won) c.of-tricks.ensures.progress in
-    let small = score_small k x c.args.vulnerability t z (omega (arith, c.of-tricks.ensures.few, c.requires)) score in
-    record { outcome = ap (λ y. Some (record { contract = terms k; declarer = x; tricks = t; score = y })) (same z small) ∙ came_as b k x t z contract declarer tricks score }

@@ -11,11 +11,6 @@ loop-i-preserved g c =
     let so_far = c.loop-i.invariant in
     (so_far.0, so_far.1, omega (arith, ints), omega (arith, ints))
 
-pub returns-clause-sum : goal.returns-clause-sum
-returns-clause-sum g c =
-    let all : c.loop-i.i ≡ length (held c.args.self.now) = omega arith in
-    c.loop-i.invariant.3 ∙ ap (sum_to g.C.Comparison.compared (held c.args.self.now)) all
-
 pub returns-clause-shared : goal.returns-clause-shared
 returns-clause-shared g c =
     let f = g.C.Comparison.compared in

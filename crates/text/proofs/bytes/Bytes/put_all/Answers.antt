@@ -1,5 +1,5 @@
 use Rattle.std.proofs.Common.{sym, arith}
-use Rattle.std.proofs.lemmas.List.{take_more, take_all}
+use Rattle.std.proofs.lemmas.List.{take_more}
 use Rattle.text.proofs.Writes.{nothing, then, told}
 use Rattle.text.proofs.bytes.Bytes.put_all.Goals as goal
 
@@ -8,6 +8,3 @@ loop-byte-init g c = nothing _
 
 pub loop-byte-preserved : goal.loop-byte-preserved
 loop-byte-preserved g c = told (sym (take_more c.args.bytes.now c.loop-byte.byte-index 0 (omega arith))) (then c.loop-byte.invariant c.put.ensures.wrote)
-
-pub returns : goal.returns
-returns g c = record { wrote = told (take_all c.loop-byte.byte-index c.args.bytes.now (omega arith)) c.loop-byte.invariant }
