@@ -2,6 +2,9 @@
 
 #![tactic(auto)]
 
+ghost use Rattle.std.specs.Prelude.{◌≡◌, ◌+◌, ◌<◌, false, length, is_ok, if◌then◌else◌};
+ghost use Rattle.text.specs.Bytes.{written};
+
 use auctions::{Auction, Standing};
 use cards::chairs::Chair;
 use input::{MOST, fill};
@@ -12,12 +15,15 @@ use std::str::from_utf8;
 use text::bytes::Bytes;
 use values::letters::{chair_letter, dealer_named};
 
-// An auction, as far as it was heard. No lawful one is longer than 319 calls.
+// The longest auction.
+const LONGEST: usize = 319;
+
+// An auction, as far as it was heard.
 #[derive(Clone, Copy)]
 struct Heard {
     dealer: Chair,
     standing: Standing,
-    calls: Bytes<319>,
+    calls: Bytes<LONGEST>,
 }
 
 impl Heard {
@@ -29,8 +35,18 @@ impl Heard {
         }
     }
 
+    // Has the auction ended? With 319 calls it has in any case.
+    fn is_over(&self) -> bool
+        ensures room { result ≡ false → length (written self.now.calls) < 319 }
+    {
+        self.calls.as_slice().len() >= LONGEST || self.standing.is_over()
+    }
+
     // Rules on what a word says for the chair in turn, and keeps it if it is a lawful call.
-    fn call(&mut self, word: &str) -> Result<(), Irregularity> {
+    fn call(&mut self, word: &str) -> Result<(), Irregularity>
+        requires { length (written self.old.calls) < 319 }
+        ensures kept { length (written self.new.calls) ≡ length (written self.old.calls) + (if is_ok result then 1 else 0) }
+    {
         let call = call_named(word.as_bytes()).ok_or(Irregularity::NoSuchAct)?;
         self.standing.ruling(call)?;
         self.calls.put(call);
@@ -53,7 +69,7 @@ fn letter(chair: Chair) -> char {
 
 // Prints the ruling on a call by the chair in turn.
 fn print_ruling(rt: &impl Print, auction: &mut Heard, word: &str) -> io::Result<()> {
-    if auction.standing.is_over() {
+    if auction.is_over() {
         return println!(rt; "- {word} the auction is over");
     }
     let chair = letter(auction.standing.turn);
@@ -69,7 +85,7 @@ fn print_ruling(rt: &impl Print, auction: &mut Heard, word: &str) -> io::Result<
 // Prints what an auction has come to, and an empty line.
 fn print_outcome(rt: &impl Print, auction: &Heard) -> io::Result<()> {
     let standing = auction.standing;
-    if !standing.is_over() {
+    if !auction.is_over() {
         let turn = letter(standing.turn);
         return println!(rt; "{turn} to call\n");
     }
