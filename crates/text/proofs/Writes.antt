@@ -1,6 +1,7 @@
 -- One text put behind another.
-use Rattle.std.proofs.Common.{◌≡◌, ℕ, zero, suc, ◌+◌, ◌<◌, ◌≤◌, List, [], ◌∷◌, ◌++◌, length, take, set, sym, refl, ap, ◌∙◌, subst, arith}
-use Rattle.std.proofs.lemmas.List.{append_assoc, append-nil, length-append, length-take, take_all, take-append-le, take_more_set}
+use Rattle.std.proofs.Common.{◌≡◌, ℕ, zero, suc, ◌+◌, ◌-◌, ◌<◌, ◌≤◌, List, [], ◌∷◌, ◌++◌, length, take, set, min, sym, refl, ap, ◌∙◌, subst, arith}
+use Rattle.std.proofs.lemmas.List.{append_assoc, append-nil, length-append, length-take, take_all, take-append-le, take_min, take_more_set}
+use Rattle.std.proofs.Math.Seq.{take-append-add}
 use Rattle.text.specs.declared.bytes.Bytes.{Bytes}
 use Rattle.text.specs.Bytes.{Wrote, kept, written}
 
@@ -46,3 +47,10 @@ full_byte {n} a byte l h =
     let all : written a ≡ a.bytes = take_all a.used a.bytes (omega arith) in
     let many : n ≤ length a.bytes = omega arith in
     all ∙ sym (ap (λ x. take n (x ++ (byte ∷ []))) all ∙ take-append-le n a.bytes (byte ∷ []) many ∙ take_all n a.bytes (omega arith))
+
+-- a text as far as there is room
+pub fits_front : {n : ℕ} (a : Bytes n) (t : List ℕ) → length a.bytes ≡ n → written a ++ take (min (n - a.used) (length t)) t ≡ kept n (written a ++ t)
+unfolding kept
+fits_front {n} a t l =
+    let room : length (written a) + (n - a.used) ≡ n = simp length-take (omega (arith, a.within)) in
+    ap (λ x. written a ++ x) (take_min (n - a.used) t) ∙ sym (take-append-add (written a) t (n - a.used)) ∙ ap (λ x. take x (written a ++ t)) room

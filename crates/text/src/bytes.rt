@@ -56,9 +56,13 @@ impl<const N: usize> Bytes<N> {
     pub fn put_all(&mut self, bytes: &[u8])
         ensures wrote { Wrote bytes.now self.old self.new }
     {
-        for &byte in bytes {
-            self.put(byte);
+        // Room is asked for once, and the loop is compiled to one copy.
+        let used = self.used;
+        let fitting = (N - used).min(bytes.len());
+        for (i, &byte) in bytes[..fitting].iter().enumerate() {
+            self.bytes[used + i] = byte;
         }
+        self.used = used + fitting;
     }
 
     // Puts a number in decimal behind the others.

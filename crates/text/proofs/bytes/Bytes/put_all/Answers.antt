@@ -1,10 +1,10 @@
-use Rattle.std.proofs.Common.{sym, arith}
-use Rattle.std.proofs.lemmas.List.{take_more}
-use Rattle.text.proofs.Writes.{nothing, then, told}
+use Rattle.std.proofs.Common.{◌≡◌, length, take, arith}
+use Rattle.std.proofs.lemmas.List.{length-take-le}
+use Rattle.text.proofs.Writes.{fits_front}
 use Rattle.text.proofs.bytes.Bytes.put_all.Goals as goal
 
-pub loop-byte-init : goal.loop-byte-init
-loop-byte-init g c = nothing _
-
-pub loop-byte-preserved : goal.loop-byte-preserved
-loop-byte-preserved g c = told (sym (take_more c.args.bytes.now c.loop-byte.byte-index 0 (omega arith))) (then c.loop-byte.invariant c.put.ensures.wrote)
+pub returns : goal.returns
+returns g c =
+    let all : length (take c.min-fitting.result c.args.bytes.now) ≡ c.min-fitting.result = length-take-le _ _ (omega arith) in
+    let end : c.min-fitting.result ≡ c.loop-i.i = omega arith in
+    record { wrote = record { text = cc (fits_front c.args.self.now c.args.bytes.now (omega arith)) } }
