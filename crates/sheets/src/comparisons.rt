@@ -47,17 +47,14 @@ const LIMITS: [u32; 24] = [
     2000, 2250, 2500, 3000, 3500, 4000,
 ];
 
-// The IMPs for a difference of a size: how many limits lie at or below it. They are 24 at most, so `as`
-// keeps them; `try_from` would add a refusal that never comes.
+// The IMPs for a difference of a size: how many limits lie at or below it, which a binary search finds, since
+// they rise. They are 24 at most, so `as` keeps them; `try_from` would add a refusal that never comes.
 pub fn imps_for(size: u64) -> u8
     ensures count { result ≡ imp_count size }
     ensures bound { result ≤ 24 }
     ensures table { Table }
 {
-    LIMITS
-        .iter()
-        .filter(|limit| u64::from(**limit) <= size)
-        .count() as u8
+    LIMITS.partition_point(|limit| u64::from(*limit) <= size) as u8
 }
 
 // International match points, by the size of the difference.
