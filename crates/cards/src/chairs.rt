@@ -91,6 +91,6 @@ impl Chair {
     pub fn same_side(self, other: Chair) -> bool
         ensures side { result ≡ same_side self other }
     {
-        self == other || self == other.partner()
+        self.place(other) % 2 == 0
     }
 }

@@ -11,7 +11,10 @@ pub fn count(deal: &[u8; 52], chair: Chair) -> usize
     ensures count { result ≡ count (code chair) deal.now }
 {
     let code = u8::from(chair);
-    deal.iter().filter(|receiver| **receiver == code).count()
+    // A sum of ones compiles to wide additions; a filter and `count` go byte by byte.
+    deal.iter()
+        .map(|receiver| usize::from(*receiver == code))
+        .sum()
 }
 
 // Does each chair get 13 cards?

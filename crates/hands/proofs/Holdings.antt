@@ -1,7 +1,7 @@
 -- What a hand holds: what a deal gives it, and what is left of it when cards are gone.
 use Rattle.std.proofs.Common.{◌≡◌, ℕ, zero, suc, ◌+◌, ◌-◌, ◌*◌, ◌/◌, ◌%◌, ◌<◌, ◌≤◌, Bool, true, false, cond, not, eqb, ◌≢◌}
 use Rattle.std.proofs.Common.{List, [], ◌∷◌, ◌++◌, length, get_or, Some, None, Option, sym, refl, ap, ◌∙◌, subst, inl, inr, le_of_suc-le-suc, not-suc-le-zero, arith}
-use Rattle.std.proofs.lemmas.Bool.{and_parts, both_ways, cases_eq, cases_lt, eqb-false, eqb-true, false≢true, not-true}
+use Rattle.std.proofs.lemmas.Bool.{and_parts, cases_eq, eqb-false, eqb-true, false≢true, not-true}
 use Rattle.std.proofs.Math.Bool.{and-false, and-true}
 use Rattle.cards.proofs.Ways.{by}
 use Rattle.cards.proofs.Counts.{count_more}
@@ -112,24 +112,6 @@ some_there h c zero e = absurd (false≢true (sym e))
 some_there h c (suc n) e = by (holds h c)
     (λ q. (c, omega arith, omega arith, q))
     (λ q. let r = some_there h (suc c) n (rw q at e) in (r.0, omega (arith, r.1), omega (arith, r.2), r.3))
-
--- what is found so is the lowest card
-pub lowest_only : (h c n : ℕ) (o : Option ℕ) → Found h c n o → o ≡ lowest_from h c n
-unfolding lowest_from
-lowest_only h c zero None f = refl
-lowest_only h c zero (Some x) f = absurd (let v : ⊥ = omega (arith, f.0, f.1) in v)
-lowest_only h c (suc n) o f = by (holds h c) (λ e. rw e (here e o f)) (λ e. rw e (lowest_only h (suc c) n o (later e o f)))
-  where
-    here : holds h c ≡ true → (o : Option ℕ) → Found h c (suc n) o → o ≡ Some c
-    here e None f = absurd (both_ways (holds h c) (f c (omega arith) (omega arith)) e)
-    here e (Some x) f = elim (cases_lt c x) [ inl l ↦ absurd (both_ways (holds h c) (f.3 c (omega arith) l) e) | inr l ↦ ap Some (omega (arith, f.0)) ]
-
-    later : holds h c ≡ false → (o : Option ℕ) → Found h c (suc n) o → Found h (suc c) n o
-    later e None f = λ x l u. f x (omega arith) (omega arith)
-    later e (Some x) f = elim (cases_eq c x) [
-      | inl q ↦ absurd (both_ways (holds h c) e (subst (λ y. holds h y ≡ true) (sym q) f.2))
-      | inr q ↦ (omega (arith, f.0), omega (arith, f.1), f.2, λ y l u. f.3 y (omega arith) u)
-    ]
 
 pub lowest_found : Lowest
 unfolding lowest_from

@@ -2,7 +2,7 @@
 
 #![tactic(auto)]
 
-ghost use Rattle.std.specs.Prelude.{◌≡◌, ◌+◌, ◌≤◌};
+ghost use Rattle.std.specs.Prelude.{◌≡◌, ◌+◌, ◌<◌, ◌≤◌};
 ghost use Rattle.cards.specs.Chairs.{code};
 ghost use Rattle.cards.specs.Hands.{dealt};
 ghost use Rattle.hands.specs.Hands.{is_void, lowest, lowest_from, lowest_of, remaining, without};
@@ -53,10 +53,13 @@ pub fn is_void(hand: u64, suit: Suit) -> bool
 
 // The lowest card that the hand holds among so many from one on.
 fn lowest_from(hand: u64, first: u8, cards: u8) -> Option<u8>
-    requires { first + cards ≤ 64 }
+    requires within { first + cards ≤ 64 }
+    requires shift { first < 64 }
     ensures card { result ≡ lowest_from hand first cards }
 {
-    (first..first + cards).find(|card| holds(hand, *card))
+    // A search from card to card may be unrolled into hundreds of steps where it is called.
+    let lacked = (hand >> first).trailing_zeros() as u8;
+    (lacked < cards).then_some(first + lacked)
 }
 
 // The lowest card of a hand, by its number.
