@@ -41,10 +41,11 @@ impl Auction<'_> {
         requires { is_bid bid.call ≡ true }
         ensures chair { result ≡ first_to_name bid self.now.dealer self.now.calls.now }
     {
+        let named = denomination(bid.call)?;
         // A loop, since a chain would have to count the chairs along with the calls.
         let mut turn = self.dealer;
         for call in self.calls {
-            if denomination(*call) == denomination(bid.call) && turn.same_side(bid.by) {
+            if denomination(*call).is_some_and(|other| other == named) && turn.same_side(bid.by) {
                 return Some(turn);
             }
             turn = turn.next();
